@@ -1,0 +1,4 @@
+pub mod Examples
+pub mod Threes
+pub mod PartWords
+pub mod ClaimWords

@@ -1,0 +1,13 @@
+use mathlib.Core.Path.{_≡_}
+use mathlib.Core.List.{map}
+use Rattle.std.specs.Of.Vec.{vec-items, vec-len}
+use Rattle.std.specs.shelf.Lists.{joined}
+use Rattle.claims.specs.Meaning.{pure-of}
+use Rattle.notation.specs.Order.{In-order, pure-names}
+use Rattle.notation.proofs.numbering.Table.pures.Given as given
+
+abbrev pub Inv-loop-draft : given.InvT-loop-draft
+Inv-loop-draft l =
+    In-order (vec-len (l .entry .self .names)) (joined pure-names (map pure-of (vec-items (l .pures)))) (vec-len (l .self .names)) ×
+    (vec-len (l .pures) ≡ l .draft-index) ×
+    (l .self .text .now ≡ l .entry .self .text .now)
