@@ -5,3 +5,4 @@ pub mod Memory
 -- what the code's types stand for, and what reading promises
 pub mod Meaning
 pub mod Reading
+pub mod Decoding

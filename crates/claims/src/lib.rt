@@ -3,6 +3,7 @@
 // A claim (a symbolic heap) says which names stand for the same place, and which cells and rows of cells
 // a memory consists of. A question asks whether one claim says another. `read` takes words apart into a
 // question, and `Question::words` puts one together.
+pub mod decoding;
 pub mod layouts;
 pub mod names;
 pub mod parts;
@@ -11,6 +12,8 @@ pub mod shapes;
 #[cfg(test)]
 mod tests;
 
+pub use decoding::Decoded;
+pub use decoding::decode;
 pub use layouts::Layout;
 pub use layouts::read;
 pub use names::Name;

@@ -3,3 +3,10 @@ pub mod Rows
 pub mod Atoms
 pub mod Dealt
 pub mod Alike
+pub mod Marking
+pub mod Walking
+pub mod Dealing
+pub mod Judgement
+pub mod Placing
+pub mod Theorems
+pub mod Asking

@@ -18,7 +18,3 @@ abbrev pub Rows-join : Type 0
 Rows-join =
     (p q r : ℕ) (m a b : Memory) → T (sound m) → Parts a b m → Is-row p q a → Is-row q r b → (r ≡ 0) ⊎ (here r a ≡ false) →
     Is-row p r m
-
-pub record Laws : Type 0 where
-  pub precise : Precise
-  pub rows-join : Rows-join

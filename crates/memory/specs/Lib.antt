@@ -2,3 +2,8 @@
 pub mod Laws
 pub mod Taking
 pub mod Owners
+-- memories as words, walks from cell to cell, why a claim fails, and what the checking call promises
+pub mod Marks
+pub mod Walks
+pub mod Judging
+pub mod Checking

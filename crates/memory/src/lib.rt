@@ -1,9 +1,15 @@
-// The laws of memory: how its parts, its rows, and the cells and rows of claims go together.
-// They are mathematics, in specs and proofs; `laws_stand` asks for the two theorems.
-ghost use Rattle.memory.specs.Laws.{Laws};
+// Memories of linked cells: does a claim hold of names and a memory, and if not, why not?
+//
+// `check` takes everything as words and needs nothing to be right with them. `holds` takes a claim's parts as
+// values and a memory that is known to be sound. The laws of memory that they rest on are in specs and proofs.
+pub mod cells;
+pub mod checks;
+pub mod deals;
+#[cfg(test)]
+mod tests;
+pub mod walks;
 
-pub fn laws_stand() -> u8
-    ensures { λ _. ⌜ Laws ⌝ }
-{
-    0
-}
+pub use checks::Checked;
+pub use checks::check;
+pub use deals::Why;
+pub use deals::holds;

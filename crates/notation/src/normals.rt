@@ -1,7 +1,6 @@
 // The normal form of a question: the word form, each part on a line, same and other before cells and rows.
 // Reading it again gives the same question.
 use crate::numbering::Asked;
-use crate::spans::Span;
 use claims::Atom;
 use claims::Claim;
 use claims::Name;
@@ -12,24 +11,27 @@ use std::str::from_utf8;
 
 const INDENT: &str = "     ";
 
-// How the names are spelled.
-#[derive(Clone, Copy)]
-struct Printer<'a> {
-    text: &'a [u8],
-    names: &'a [Span],
-}
-
-impl<'a> Printer<'a> {
-    fn spelled(&self, name: Name) -> &'a str {
+impl Asked {
+    // How the name is spelled in the text that was read.
+    pub fn spelled<'a>(&self, text: &'a [u8], name: Name) -> &'a str {
         if name.0 == 0 {
             return "nowhere";
         }
-        match self.names.get(usize::from(name.0)) {
-            Some(span) => from_utf8(span.of(self.text)).unwrap_or("?"),
+        match self.names.as_slice().get(usize::from(name.0)) {
+            Some(span) => from_utf8(span.of(text)).unwrap_or("?"),
             None => "?",
         }
     }
+}
 
+// A question's text, for the spelling of its names.
+#[derive(Clone, Copy)]
+struct Printer<'a> {
+    text: &'a [u8],
+    asked: &'a Asked,
+}
+
+impl Printer<'_> {
     fn part(
         &self,
         out: &mut String,
@@ -40,9 +42,9 @@ impl<'a> Printer<'a> {
     ) -> Result<(), AllocError> {
         out.push_str(lead)?;
         out.push_str(word)?;
-        out.push_str(self.spelled(x))?;
+        out.push_str(self.asked.spelled(self.text, x))?;
         out.push(' ')?;
-        out.push_str(self.spelled(y))?;
+        out.push_str(self.asked.spelled(self.text, y))?;
         out.push('\n')
     }
 
@@ -88,10 +90,7 @@ pub fn normal_form<'a>(
     text: &'a [u8],
     asked: &'a Asked,
 ) -> Result<String, AllocError> {
-    let printer = Printer {
-        text,
-        names: asked.names.as_slice(),
-    };
+    let printer = Printer { text, asked };
     let mut out = String::new(heap);
     printer.claim(&mut out, "if   ", &asked.question.first)?;
     printer.claim(&mut out, "then ", &asked.question.second)?;

@@ -1,7 +1,9 @@
-// The program `says`: reads questions from files or from standard input, and prints each in the normal form.
+// The program `says`: reads questions from files or from standard input, and prints each in the normal form, with what
+// must be so of the names of its first claim.
 use console::Arguments;
 use console::inputs::UnreadDisplay;
 use console::load_named;
+use findings::found;
 use notation::MOST_BYTES;
 use notation::Reader;
 use notation::normal_form;
@@ -16,7 +18,8 @@ const VERSION: &str = "says 0.1, proved with rattle-kit-8b logic 7f726aa04152068
 const HELP: &str = "usage: says [FILE..]
 
 Reads questions about linked cells from the files, or from standard input, and prints each in
-the normal form, with how many names and parts it has.
+the normal form, with how many names and parts it has, and what was found out about its first
+claim: that it can't be, or which names must be the same or other without being given so.
 
   --help      this text
   --version   which program this is
@@ -46,7 +49,8 @@ fn show_text(rt: &LibcRuntime, file: &str, text: &[u8]) -> io::Result<bool> {
         match next {
             Ok(asked) => {
                 rt.print(counted::line(heap, &asked)?)?;
-                rt.println(normal_form(heap, text, &asked)?)?;
+                rt.print(normal_form(heap, text, &asked)?)?;
+                rt.println(found(heap, text, &asked)?)?;
             }
             Err(e) => {
                 rt.eprint(report(heap, file, text, &e)?)?;

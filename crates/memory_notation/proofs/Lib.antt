@@ -1,0 +1,3 @@
+-- The lemmas behind the contracts.
+mod Cut
+mod Told
