@@ -9,7 +9,7 @@ use Rattle.std.proofs.lemmas.Slice.{between_is}
 use Rattle.std.proofs.lemmas.Bool.{true≢false}
 use Rattle.claims.specs.Claims.{Question}
 use Rattle.claims.specs.Words.{words, Limits, Reads, OneQuestion}
-use Rattle.memory.specs.Marks.{memory-words}
+use Rattle.memory.specs.Marks.{memory_words}
 use Rattle.models.specs.Follows.{DoesFollow, Against}
 use Rattle.entails.specs.Deciding.{Asked, Does, Shown, NotShown, Answer, DecidedPost}
 use Rattle.entails.specs.declared.deciding.Decided.{Decided}
@@ -28,7 +28,7 @@ pub refuting :
 refuting q o p k j i h is names memory =
     let far = j + 2 * k in
     let n = h.names in
-    let t = memory-words h.memory in
+    let t = memory_words h.memory in
     let long : length n ≡ j = h.against.names ∙ sym is in
     let told : take far p ≡ n ++ t = ap (λ a. take (a + 2 * k) p) is ∙ h.told in
     let front : between 0 j p ≡ n = between_is p 0 j ∙ sym (take-take j far p (omega arith)) ∙ ap (take j) told ∙ take_at n t j long in
@@ -49,7 +49,7 @@ module _ (q : Question) (limits : Limits q) (s o p : List ℕ) (w : ℕ) (r : De
   reads = record { is = sym is; limits = limits }
 
   so : (P : Question → Type 0) → Asked s P → P q
-  so P a = asked_is q s P reads post.theorems.one-question a
+  so P a = asked_is q s P reads post.theorems.one_question a
 
   answers : (a : Decided) → r ≡ a → Answer s o p a
   answers a e = subst (Answer s o p) e post.answer
@@ -63,7 +63,7 @@ module _ (q : Question) (limits : Limits q) (s o p : List ℕ) (w : ℕ) (r : De
   pub never_full : 320 ≤ length o → r ≡ OutFull → ⊥
   never_full room e =
       let h = so (λ u. NotShown u o p) (answers OutFull e) in
-      omega (arith, h.short, room, limits.few-names, limits.first_fits.few-atoms)
+      omega (arith, h.short, room, limits.few_names, limits.first_fits.few_atoms)
 
   pub never_none : r ≡ NoClaims → ⊥
   never_none e = (answers NoClaims e).none q reads

@@ -2,6 +2,8 @@
 //
 // `ask` tells whether the second claim of a question follows from the first, with an instance that shows it where it doesn't.
 // `page` makes text of that, of the question, and of what must be so of its first claim.
+#![tactic(auto)]
+
 pub mod asking;
 pub mod counts;
 pub mod instances;

@@ -1,3 +1,5 @@
 // Tests of the answers, apart from them, so that they are not proved twice.
+#![tactic(auto)]
+
 #[cfg(test)]
 mod tests;

@@ -1,5 +1,7 @@
 // The program `asks`: reads questions from files or from standard input, and answers each: does the first claim say the
 // second? Where it does not, a memory shows it.
+#![tactic(auto)]
+
 use answers::{Lent, Tally, ask, page};
 use anyhow::anyhow;
 use console::{Arguments, load_named};

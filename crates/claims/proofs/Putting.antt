@@ -1,7 +1,7 @@
 -- Parts that are read one after the other and put into an array, as by `decode`.
 --
 -- f gives the three words of a part, P says which parts are meant, and g what an element of the array stands for.
--- `put_more` and `put_all` are a turn and the end of the loop; `count-put` says how many parts were put.
+-- `put_more` and `put_all` are a turn and the end of the loop; `count_put` says how many parts were put.
 use Rattle.std.proofs.Common.{◌≡◌, ℕ, ◌+◌, ◌-◌, ◌*◌, ◌/◌, ◌%◌, ◌<◌, List, [], ◌∷◌, ◌++◌, map, length, take, drop, set, sym, ap, ◌∙◌, ap₂, arith, length-set, take-add}
 use Rattle.std.specs.List.{flat_map, AllByRecursion as All}
 use Rattle.std.proofs.lemmas.List.{take_more_set, map_push, take_rest, take_all, flat_map_more}
@@ -38,10 +38,10 @@ module _ {A X : Type 0} (f : A → List ℕ) (P : A → Type 0) (g : X → A) (k
   put_all h m p = (p.room, rw (← h) (p.words ∙ take_all (3 * i) s (omega arith)), rw (← h) p.meant)
 
 -- so many parts were put
-pub count-put :
+pub count_put :
     {A X : Type 0} (f : A → List ℕ) (P : A → Type 0) (g : X → A) (s : List ℕ) (n : ℕ) (xs : List X) → length s ≡ 3 * n →
     flat_map f (map g (take (length s / 3) xs)) ≡ s → All P (map g (take (length s / 3) xs)) →
     (flat_map f (map g (take n xs)) ≡ s) × All P (map g (take n xs))
-count-put f P g s n xs h e a =
+count_put f P g s n xs h e a =
     let same : length s / 3 ≡ n = omega arith in
     (rw same at e, rw same at a)

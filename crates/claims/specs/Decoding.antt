@@ -2,7 +2,7 @@
 use Rattle.std.specs.Prelude.{◌≡◌, ℕ, ◌/◌, List, ◌++◌, map, length, take, Some, None, Option}
 use Rattle.std.specs.List.{flat_map, AllByRecursion as All}
 use Rattle.claims.specs.Claims as claims
-use Rattle.claims.specs.Words.{claim-words, Fits}
+use Rattle.claims.specs.Words.{claim_words, Fits}
 use Rattle.claims.specs.Meaning.{pure_of, atom_of}
 use Rattle.claims.specs.Reading.{HasShape}
 use Rattle.claims.specs.declared.decoding.Decoded.{Decoded}
@@ -23,11 +23,11 @@ PartsRead {A} f P g k s None = (ps : List A) → flat_map f ps ≡ s → All P p
 -- the words s begin with the claim d, which is over n names
 pub record Decodes (s : List ℕ) (n : ℕ) (d : Decoded) : Type 0 where
   pub rest : List ℕ
-  pub words : s ≡ claim-words (decoded_claim d) ++ rest
+  pub words : s ≡ claim_words (decoded_claim d) ++ rest
   pub fits : Fits n (decoded_claim d)
   pub shape : HasShape (decoded_claim d) d.shape
 
 -- the words s begin with a claim over n names, which it is; or with none
 abbrev pub ClaimDecoded : List ℕ → ℕ → Option Decoded → Type 0
 ClaimDecoded s n (Some d) = Decodes s n d
-ClaimDecoded s n None = (c : claims.Claim) (rest : List ℕ) → s ≡ claim-words c ++ rest → Fits n c → ⊥
+ClaimDecoded s n None = (c : claims.Claim) (rest : List ℕ) → s ≡ claim_words c ++ rest → Fits n c → ⊥

@@ -2,7 +2,7 @@
 use Rattle.std.specs.Prelude.{◌≡◌, ℕ, ◌+◌, ◌*◌, Bool, true, false, List, ◌++◌, length, take, Some, None, Option, ◌≢◌}
 use Rattle.std.specs.List.{flat_map, AllByRecursion as All}
 use Rattle.claims.specs.Claims as claims
-use Rattle.claims.specs.Words.{pure_words, atom_words, claim-words, PureBelow, AtomBelow, Fits, Reads, OneQuestion}
+use Rattle.claims.specs.Words.{pure_words, atom_words, claim_words, PureBelow, AtomBelow, Fits, Reads, OneQuestion}
 use Rattle.claims.specs.Meaning.{pure_of, atom_of}
 use Rattle.claims.specs.declared.parts.Pure.{Pure}
 use Rattle.claims.specs.declared.parts.Atom.{Atom}
@@ -32,8 +32,8 @@ pub record HasShape (c : claims.Claim) (l : Shape) : Type 0 where
 -- the words s begin with a claim over n names of that shape; or with none
 abbrev pub ClaimRead : List ℕ → ℕ → Option Shape → Type 0
 ClaimRead s n (Some l) =
-    (c : claims.Claim) × (rest : List ℕ) × (s ≡ claim-words c ++ rest) × Fits n c × HasShape c l
-ClaimRead s n None = (c : claims.Claim) (rest : List ℕ) → s ≡ claim-words c ++ rest → Fits n c → ⊥
+    (c : claims.Claim) × (rest : List ℕ) × (s ≡ claim_words c ++ rest) × Fits n c × HasShape c l
+ClaimRead s n None = (c : claims.Claim) (rest : List ℕ) → s ≡ claim_words c ++ rest → Fits n c → ⊥
 
 -- where the parts of a question lie in its words
 pub record HasLayout (q : claims.Question) (l : Layout) : Type 0 where
@@ -49,4 +49,4 @@ QuestionRead s None = (q : claims.Question) → Reads s q → ⊥
 -- what `read` answers, and that it is the only answer
 pub record ReadPost (s : List ℕ) (r : Option Layout) : Type 0 where
   pub answer : QuestionRead s r
-  pub one-question : OneQuestion
+  pub one_question : OneQuestion

@@ -12,12 +12,12 @@ abbrev pub atom_words : Atom → List ℕ
 atom_words (cell x y) = 2 ∷ x ∷ y ∷ []
 atom_words (row x y) = 3 ∷ x ∷ y ∷ []
 
-abbrev pub claim-words : Claim → List ℕ
-claim-words c =
+abbrev pub claim_words : Claim → List ℕ
+claim_words c =
     length c.pures ∷ length c.atoms ∷ (flat_map pure_words c.pures ++ flat_map atom_words c.atoms)
 
 abbrev pub words : Question → List ℕ
-words q = q.names ∷ (claim-words q.first ++ claim-words q.second)
+words q = q.names ∷ (claim_words q.first ++ claim_words q.second)
 
 -- both names are below n
 abbrev pub PureBelow : ℕ → Pure → Type 0
@@ -30,15 +30,15 @@ AtomBelow n (row x y) = (x < n) × (y < n)
 
 -- within the limits of a claim over n names
 pub record Fits (n : ℕ) (c : Claim) : Type 0 where
-  pub few-pures : length c.pures ≤ 256
-  pub few-atoms : length c.atoms ≤ 64
-  pub pures-below : All (PureBelow n) c.pures
-  pub atoms-below : All (AtomBelow n) c.atoms
+  pub few_pures : length c.pures ≤ 256
+  pub few_atoms : length c.atoms ≤ 64
+  pub pures_below : All (PureBelow n) c.pures
+  pub atoms_below : All (AtomBelow n) c.atoms
 
 -- 1 to 64 names, and both claims within the limits
 pub record Limits (q : Question) : Type 0 where
   pub some_names : 1 ≤ q.names
-  pub few-names : q.names ≤ 64
+  pub few_names : q.names ≤ 64
   pub first_fits : Fits q.names q.first
   pub second_fits : Fits q.names q.second
 

@@ -3,6 +3,8 @@
 // A claim (a symbolic heap) says which names stand for the same place, and which cells and rows of cells
 // a memory consists of. A question asks whether one claim says another. `read` takes words apart into a
 // question, and `Question::words` puts one together.
+#![tactic(auto)]
+
 pub mod decoding;
 pub mod layouts;
 pub mod names;

@@ -2,7 +2,7 @@
 ghost use Rattle.std.specs.Prelude.{◌≡◌, ◌≤◌, ◌++◌, map, IfOk, vec_len, OnOk};
 ghost use Rattle.std.specs.List.{flat_map};
 ghost use Rattle.claims.specs.Meaning.{pure_of, atom_of, claim_of, question_of};
-ghost use Rattle.claims.specs.Words.{words as words_of, claim-words, pure_words, atom_words, Limits};
+ghost use Rattle.claims.specs.Words.{words as words_of, claim_words, pure_words, atom_words, Limits};
 
 use crate::parts::{Atom, Pure};
 use std::alloc::{AllocError, Global};
@@ -44,7 +44,7 @@ fn push_atoms(out: &mut Vec<u32>, atoms: &[Atom]) -> Result<(), AllocError>
 fn push_claim(out: &mut Vec<u32>, claim: &Claim) -> Result<(), AllocError>
     requires few_pures { vec_len claim.now.pures ≤ 256 }
     requires few_atoms { vec_len claim.now.atoms ≤ 64 }
-    ensures { OnOk result (out.new.items ≡ out.old.items ++ claim-words (claim_of claim.now)) }
+    ensures { OnOk result (out.new.items ≡ out.old.items ++ claim_words (claim_of claim.now)) }
 {
     out.push(claim.pures.len() as u32)?;
     out.push(claim.atoms.len() as u32)?;

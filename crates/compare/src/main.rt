@@ -1,5 +1,7 @@
 // The program `compare`: has questions decided, and judges the answers by going through memories. It prints what came
 // out, and ends with an error if an answer is not what it must be.
+#![tactic(auto)]
+
 use anyhow::anyhow;
 use entails::{Decided, decide};
 use naive::worked::Expected;

@@ -1,4 +1,6 @@
 // What the programs share at their doors: arguments in, texts in, messages out.
+#![tactic(auto)]
+
 pub mod arguments;
 pub mod inputs;
 

@@ -8,14 +8,14 @@ use Rattle.entails.specs.Telling.{first_of, second_of, question_of}
 use Rattle.entails.specs.declared.goals.Goal.{Goal}
 
 module _ (g : Goal) (limits : Limits (question_of g)) where
-  pub first-pures : All (PureBelow 64) (first_of g).pures
-  first-pures = pures_weaker g.names limits.few-names (first_of g).pures limits.first_fits.pures-below
+  pub first_pures : All (PureBelow 64) (first_of g).pures
+  first_pures = pures_weaker g.names limits.few_names (first_of g).pures limits.first_fits.pures_below
 
-  pub second-pures : All (PureBelow 64) (second_of g).pures
-  second-pures = pures_weaker g.names limits.few-names (second_of g).pures limits.second_fits.pures-below
+  pub second_pures : All (PureBelow 64) (second_of g).pures
+  second_pures = pures_weaker g.names limits.few_names (second_of g).pures limits.second_fits.pures_below
 
-  pub first-atoms : All (AtomBelow 64) (first_of g).atoms
-  first-atoms = atoms_weaker g.names limits.few-names (first_of g).atoms limits.first_fits.atoms-below
+  pub first_atoms : All (AtomBelow 64) (first_of g).atoms
+  first_atoms = atoms_weaker g.names limits.few_names (first_of g).atoms limits.first_fits.atoms_below
 
-  pub second-atoms : All (AtomBelow 64) (second_of g).atoms
-  second-atoms = atoms_weaker g.names limits.few-names (second_of g).atoms limits.second_fits.atoms-below
+  pub second_atoms : All (AtomBelow 64) (second_of g).atoms
+  second_atoms = atoms_weaker g.names limits.few_names (second_of g).atoms limits.second_fits.atoms_below

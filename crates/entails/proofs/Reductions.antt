@@ -1,7 +1,7 @@
 -- What is left of a part settles the part.
 --
--- renamed-left, cancelled_left: one part is left; none_left: nothing is; two-left: two parts are.
--- drawn-from, part-later: what is drawn from all atoms of a part, and the part where more is known.
+-- renamed_left, cancelled_left: one part is left; none_left: nothing is; two_left: two parts are.
+-- drawn_from, part_later: what is drawn from all atoms of a part, and the part where more is known.
 use Rattle.std.proofs.Common.{◌≡◌, ℕ, List, [], Some, None, Option, sym, refl, subst, subst₂, arith}
 use Rattle.std.specs.List.{AllByRecursion as All}
 use Rattle.claims.specs.Claims.{Atom}
@@ -32,8 +32,8 @@ no_known : (j : Known) → None ≡ Some j → ⊥
 no_known j e = let z : ◌≡◌ {A = ℕ} 0 1 = cc in omega arith
 
 module _ (g : Goal) (k : Known) (p : Part) where
-  pub renamed-left : (q : Part) → PartOf g k p → Renamed k p q → OneLeft g k p q
-  renamed-left q of r =
+  pub renamed_left : (q : Part) → PartOf g k p → Renamed k p q → OneLeft g k p q
+  renamed_left q of r =
       record {
         part_of = lives_on k (first_of g).atoms (whole_of p) (whole_of q) of r.whole;
         settles = λ closed. renamed r.own r.wanted closed;
@@ -54,26 +54,26 @@ module _ (g : Goal) (k : Known) (p : Part) where
         left.settles
         (subst₂ (Closed g.names (first_of g) (second_of g) (Some k)) (sym (empty_list q.own no_own)) (sym (empty_list q.wanted no-wanted)) (nothing_left pures))
 
-    pub two-left : (a b : Part) → Cut q a b → TwoLeft g k p a b
-    two-left a b cut =
+    pub two_left : (a b : Part) → Cut q a b → TwoLeft g k p a b
+    two_left a b cut =
         record {
-          first_part = lives_regrouped k (first_of g).atoms (whole_of q) (whole_of a) left.part_of cut.first-whole;
-          second-part = lives_regrouped k (first_of g).atoms (whole_of q) (whole_of b) left.part_of cut.second-whole;
+          first_part = lives_regrouped k (first_of g).atoms (whole_of q) (whole_of a) left.part_of cut.first_whole;
+          second_part = lives_regrouped k (first_of g).atoms (whole_of q) (whole_of b) left.part_of cut.second_whole;
           settles = λ one two. left.settles (in_parts cut.own cut.wanted one two);
           first_smaller = omega (arith, left.no_more, cut.first_smaller);
           second_smaller = omega (arith, left.no_more, cut.second_smaller);
         }
 
 -- what is drawn from all atoms of a part is drawn from the first claim's
-pub drawn-from :
+pub drawn_from :
     (k : Known) (cs ls : List Atom) (r : Option Known) → Lives k cs ls → Propagated ls k r → Propagated cs k r
-drawn-from k cs ls (Some j) lives p =
+drawn_from k cs ls (Some j) lives p =
     record { forth = λ n m s d g. p.forth n m s ((lives n g m).0 d) g; back = p.back }
-drawn-from k cs ls None lives p = λ n m s d g. p n m s ((lives n g m).0 d) g
+drawn_from k cs ls None lives p = λ n m s d g. p n m s ((lives n g m).0 d) g
 
 -- a part stays one where more is known
-pub part-later : (g : Goal) (k j : Known) (p : Part) → ((n : Names) → Agrees j n → Agrees k n) → PartOf g k p → PartOf g j p
-part-later g k j p back of n a m = of n (back n a) m
+pub part_later : (g : Goal) (k j : Known) (p : Part) → ((n : Names) → Agrees j n → Agrees k n) → PartOf g k p → PartOf g j p
+part_later g k j p back of n a m = of n (back n a) m
 
 -- The two sides of a pair: what is settled with what was drawn is settled without, and names that agree then agreed before.
 module _ (g : Goal) (k : Known) (p : Part) (x y : ℕ) (of : PartOf g k p) (os ws : List Atom) where
@@ -82,12 +82,12 @@ module _ (g : Goal) (k : Known) (p : Part) (x y : ℕ) (of : PartOf g k p) (os w
       Closed g.names (first_of g) (second_of g) r os ws → Closed g.names (first_of g) (second_of g) s os ws
   without_drawn None r earlier e closed = no_names
   without_drawn (Some j) r earlier p' closed =
-      drawn (drawn-from j (first_of g).atoms (whole_of p) r (part-later g k j p (earlier j refl) of) p') closed
+      drawn (drawn_from j (first_of g).atoms (whole_of p) r (part_later g k j p (earlier j refl) of) p') closed
 
   pub same_closed :
       (r : Option Known) → SameSide k x y (whole_of p) r → Closed g.names (first_of g) (second_of g) r os ws →
       (s : Option Known) × Joined k x y s × Closed g.names (first_of g) (second_of g) s os ws
-  same_closed r side closed = (side.joined, side.is-joined, without_drawn side.joined r (go side.joined side.is-joined) side.then-drawn closed)
+  same_closed r side closed = (side.joined, side.is_joined, without_drawn side.joined r (go side.joined side.is_joined) side.then-drawn closed)
     where
       go : (s : Option Known) → Joined k x y s → (j : Known) → s ≡ Some j → (n : Names) → Agrees j n → Agrees k n
       go (Some i) joined j e n a = ((joined n).0 (subst (λ q. Agrees q n) (sym (one_known i j e)) a)).0
@@ -96,7 +96,7 @@ module _ (g : Goal) (k : Known) (p : Part) (x y : ℕ) (of : PartOf g k p) (os w
   pub other_closed :
       (r : Option Known) → OtherSide k x y (whole_of p) r → Closed g.names (first_of g) (second_of g) r os ws →
       (s : Option Known) × Parted k x y s × Closed g.names (first_of g) (second_of g) s os ws
-  other_closed r side closed = (side.parted, side.is-parted, without_drawn side.parted r (go side.parted side.is-parted) side.then-drawn closed)
+  other_closed r side closed = (side.parted, side.is_parted, without_drawn side.parted r (go side.parted side.is_parted) side.then-drawn closed)
     where
       go : (s : Option Known) → Parted k x y s → (j : Known) → s ≡ Some j → (n : Names) → Agrees j n → Agrees k n
       go (Some i) parted j e n a = ((parted n).0 (subst (λ q. Agrees q n) (sym (one_known i j e)) a)).0
@@ -104,14 +104,14 @@ module _ (g : Goal) (k : Known) (p : Part) (x y : ℕ) (of : PartOf g k p) (os w
 
 -- names that agree with what is known on a side agreed before
 pub same_back : (k j : Known) (x y : ℕ) (ls : List Atom) → SameSide k x y ls (Some j) → (n : Names) → Agrees j n → Agrees k n
-same_back k j x y ls side n a = go side.joined side.is-joined side.then-drawn
+same_back k j x y ls side n a = go side.joined side.is_joined side.then-drawn
   where
     go : (s : Option Known) → Joined k x y s → ThenDrawn ls s (Some j) → Agrees k n
     go (Some i) joined p = ((joined n).0 (p.back n a)).0
     go None joined e = absurd (no_known j (sym e))
 
-pub other-back : (k j : Known) (x y : ℕ) (ls : List Atom) → OtherSide k x y ls (Some j) → (n : Names) → Agrees j n → Agrees k n
-other-back k j x y ls side n a = go side.parted side.is-parted side.then-drawn
+pub other_back : (k j : Known) (x y : ℕ) (ls : List Atom) → OtherSide k x y ls (Some j) → (n : Names) → Agrees j n → Agrees k n
+other_back k j x y ls side n a = go side.parted side.is_parted side.then-drawn
   where
     go : (s : Option Known) → Parted k x y s → ThenDrawn ls s (Some j) → Agrees k n
     go (Some i) parted p = ((parted n).0 (p.back n a)).0

@@ -5,12 +5,12 @@ use Rattle.std.proofs.Common.{◌≡◌, ℕ, ◌<◌, ◌≤◌, List, Some, re
 use Rattle.std.specs.List.{AllByRecursion as All}
 use Rattle.claims.specs.Words.{Limits, Reads}
 use Rattle.claims.specs.Memory.{Names, PureHolds}
-use Rattle.claims.proofs.ClaimWords.{one-question}
+use Rattle.claims.proofs.ClaimWords.{one_question}
 use Rattle.memory.proofs.Theorems.{precise, rows_join}
 use Rattle.models.proofs.Small.{small_shows, one_of_two}
 use Rattle.models.proofs.Exact.{exact}
 use Rattle.linked.specs.Knowing.{Agrees}
-use Rattle.linked.proofs.FirstNumbers.{generic-holds}
+use Rattle.linked.proofs.FirstNumbers.{generic_holds}
 use Rattle.linked.specs.declared.known.Known.{Known}
 use Rattle.entails.specs.Telling.{first_of, second_of, question_of}
 use Rattle.matching.specs.Rules.{renamed}
@@ -24,14 +24,14 @@ use Rattle.entails.specs.declared.outcomes.Outcome.{Outcome}
 use Rattle.entails.specs.declared.outcomes.Outcome.TheVariants.{Settled, Refuted}
 use Rattle.entails.specs.declared.deciding.Decided.{Decided}
 use Rattle.entails.specs.declared.deciding.Decided.TheVariants.{Follows, Fails, OutFull, NoClaims, Few}
-use Rattle.entails.proofs.Bounds.{second-pures}
+use Rattle.entails.proofs.Bounds.{second_pures}
 use Rattle.matching.proofs.Rules.{all_settled}
 
 pub goal_settled :
     (g : Goal) (k : Known) (p : Part) (t : Told) (r : Outcome) → Limits (question_of g) →
     ((n : Names) → All (PureHolds n) (first_of g).pures → Agrees k n) → Whole g k p → Searched g k p t r → GoalSettled g t r
 goal_settled g k p t Settled limits all whole closed = λ n m s says.
-    all_settled g.names (first_of g) (second_of g) limits.few-names (second-pures g limits) k (renamed whole.own_val whole.wanted closed) n m s (all n says.pures) says
+    all_settled g.names (first_of g) (second_of g) limits.few_names (second_pures g limits) k (renamed whole.own_val whole.wanted closed) n m s (all n says.pures) says
 goal_settled g k p t Refuted limits all whole against = against
 
 -- what the rules settle follows
@@ -40,7 +40,7 @@ rules_right m c d few below k closed = all_settled m c d few below k closed
 
 pub theorems : Theorems
 theorems =
-    record { one-question = one-question; precise = precise; rows_join = rows_join; small_shows = small_shows; one_of_two = one_of_two; generic-holds = generic-holds; exact = exact; rules_right = rules_right }
+    record { one_question = one_question; precise = precise; rows_join = rows_join; small_shows = small_shows; one_of_two = one_of_two; generic_holds = generic_holds; exact = exact; rules_right = rules_right }
 
 -- with enough words lent, any answer but one
 pub post :

@@ -1,21 +1,21 @@
 -- Names and a memory, written one behind the other into out.
 --
--- told-words: the words of the memory that is told; written: what out holds then.
+-- told_words: the words of the memory that is told; written: what out holds then.
 use Rattle.std.proofs.Common.{◌≡◌, ℕ, ◌+◌, ◌*◌, ◌≤◌, List, [], ◌∷◌, ◌++◌, length, take, drop, sym, refl, ap, ◌∙◌, subst, arith, length-append}
 use Rattle.std.proofs.lemmas.List.{take_at, drop_at, length-take-le, append_assoc}
 use Rattle.std.proofs.lemmas.Slice.{drop-append-drop}
 use Rattle.claims.specs.Words.{Limits}
-use Rattle.memory.specs.Marks.{memory-words}
-use Rattle.memory.proofs.Marking.{words-memory}
-use Rattle.entails.specs.Telling.{told-memory, question_of, ToldAgainst}
+use Rattle.memory.specs.Marks.{memory_words}
+use Rattle.memory.proofs.Marking.{words_memory}
+use Rattle.entails.specs.Telling.{told_memory, question_of, ToldAgainst}
 use Rattle.entails.specs.Deciding.{Shown}
 use Rattle.entails.specs.declared.goals.Goal.{Goal}
 use Rattle.entails.specs.declared.told.Told.{Told}
-use Rattle.entails.proofs.Against.{told-length}
+use Rattle.entails.proofs.Against.{told_length}
 
-pub told-words : (t : Told) → memory-words (told-memory t) ≡ take (2 * t.count) t.cells
-told-words t =
-    words-memory (take (2 * t.count) t.cells) (omega (arith, length-take-le (2 * t.count) t.cells (omega (arith, t.few, t.room))))
+pub told_words : (t : Told) → memory_words (told_memory t) ≡ take (2 * t.count) t.cells
+told_words t =
+    words_memory (take (2 * t.count) t.cells) (omega (arith, length-take-le (2 * t.count) t.cells (omega (arith, t.few, t.room))))
 
 -- a is written at the front, and then b behind it
 module _ (a b o o1 o2 : List ℕ) (n k : ℕ) (la : length a ≡ n) (lb : length b ≡ k)
@@ -47,14 +47,14 @@ pub shown :
 shown g t o o1 o2 limits against first second =
     let a = take g.names t.names in
     let b = take (2 * t.count) t.cells in
-    let la = length-take-le g.names t.names (omega (arith, t.all, limits.few-names)) in
+    let la = length-take-le g.names t.names (omega (arith, t.all, limits.few_names)) in
     let lb = length-take-le (2 * t.count) t.cells (omega (arith, t.few, t.room)) in
     record {
       names = a;
-      memory = told-memory t;
+      memory = told_memory t;
       against = against.against;
-      count = told-length t;
+      count = told_length t;
       few = against.small;
-      told = written a b o o1 o2 g.names (2 * t.count) la lb first second ∙ ap (λ u. a ++ u) (sym (told-words t));
+      told = written a b o o1 o2 g.names (2 * t.count) la lb first second ∙ ap (λ u. a ++ u) (sym (told_words t));
       behind = behind a b o o1 o2 g.names (2 * t.count) la lb first second;
     }

@@ -1,6 +1,6 @@
 -- Memories that were tried, and none is against it.
 --
--- stretches_more: one place more; atoms-count: how many atoms the first claim has; all_tried: so it follows for all names of the pattern.
+-- stretches_more: one place more; atoms_count: how many atoms the first claim has; all_tried: so it follows for all names of the pattern.
 use Rattle.std.proofs.Common.{◌≡◌, ℕ, ◌+◌, ◌<◌, ◌≤◌, T, length, take, sym, ◌∙◌, subst, ⊎_elim, arith}
 use lib.ListN.{length-map}
 use Rattle.std.proofs.lemmas.List.{length-take-le}
@@ -15,7 +15,7 @@ use Rattle.matching.specs.Rules.{StandsAt}
 use Rattle.entails.specs.Telling.{first_of, second_of, question_of, NotAgainst}
 use Rattle.entails.specs.Trying.{StretchesTried, FollowsSo}
 use Rattle.entails.specs.declared.goals.Goal.{Goal}
-use Rattle.entails.proofs.Stretching.{stretched-plain}
+use Rattle.entails.proofs.Stretching.{stretched_plain}
 
 -- the memory at the place e, as it was tried with other words for the names and the place
 pub stretches_more :
@@ -40,11 +40,11 @@ all_tried g k n limits stand none each =
     }
   where
     go : {m : Memory} → Trial g.names n (first_of g).atoms m → NotAgainst g n m
-    go plain = subst (NotAgainst g n) (stretched-plain n (first_of g).atoms (length (first_of g).atoms) 0 (omega arith)) none
+    go plain = subst (NotAgainst g n) (stretched_plain n (first_of g).atoms (length (first_of g).atoms) 0 (omega arith)) none
     go (through i t li l1 lt) = each i li t l1 (omega arith)
 
 -- how many atoms the first claim has
-pub atoms-count : (g : Goal) → length (first_of g).atoms ≡ g.first.shape.atoms
-atoms-count g =
+pub atoms_count : (g : Goal) → length (first_of g).atoms ≡ g.first.shape.atoms
+atoms_count g =
     length-map (take g.first.shape.atoms g.first.atoms) atom_of ∙
     length-take-le g.first.shape.atoms g.first.atoms (omega (arith, g.first_room, g.first.shape.few_atoms))

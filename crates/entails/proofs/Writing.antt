@@ -9,7 +9,7 @@ use Rattle.std.proofs.lemmas.Bool.{ne_eqb}
 use Rattle.claims.specs.Claims.{row}
 use Rattle.claims.specs.Memory.{Names, at, Cell, Memory}
 use Rattle.memory.specs.Marks.{memory_of}
-use Rattle.models.specs.Generic.{linked-through}
+use Rattle.models.specs.Generic.{linked_through}
 use Rattle.linked.specs.Stands.{root}
 use Rattle.linked.specs.declared.known.Known.{Known}
 use Rattle.linked.proofs.Roots.{root_below}
@@ -26,18 +26,18 @@ all_stand m k g few full h =
     rooted (suc x) l = (h (suc x) (omega arith)).0 l
 
 -- a row that isn't empty goes through t by two cells
-pub through-full :
+pub through_full :
     (g : Names) (x y t : ℕ) → (at g x ≡ at g y → ⊥) →
-    linked-through g (row x y) t ≡ record { place = at g x; holds = t } ∷ record { place = t; holds = at g y } ∷ []
-through-full g x y t ne = rw (ne_eqb (at g x) (at g y) ne) refl
+    linked_through g (row x y) t ≡ record { place = at g x; holds = t } ∷ record { place = t; holds = at g y } ∷ []
+through_full g x y t ne = rw (ne_eqb (at g x) (at g y) ne) refl
 
 -- and so it is written
 pub through_written :
     (g : Names) (x y t p q : ℕ) (m m1 m2 : Memory) → p ≡ at g x → q ≡ at g y → (p ≡ q → ⊥) →
     m1 ≡ m ++ record { place = p; holds = t } ∷ [] → m2 ≡ m1 ++ record { place = t; holds = q } ∷ [] →
-    m2 ≡ m ++ linked-through g (row x y) t
+    m2 ≡ m ++ linked_through g (row x y) t
 through_written g x y t p q m m1 m2 ep eq ne e1 e2 =
-    let full = through-full g x y t (λ e. ne (ep ∙ e ∙ sym eq)) in
+    let full = through_full g x y t (λ e. ne (ep ∙ e ∙ sym eq)) in
     let two = append_assoc m (record { place = p; holds = t } ∷ []) (record { place = t; holds = q } ∷ []) in
     e2 ∙ ap (λ l. l ++ record { place = t; holds = q } ∷ []) e1 ∙ two ∙
     subst (λ u. m ++ record { place = p; holds = t } ∷ record { place = t; holds = q } ∷ [] ≡ m ++ u) (sym full)

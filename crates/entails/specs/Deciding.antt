@@ -5,7 +5,7 @@ use Rattle.claims.specs.Claims as claims
 use Rattle.claims.specs.Words.{Reads, OneQuestion, PureBelow}
 use Rattle.claims.specs.Memory.{Names, Memory, sound, Says}
 use Rattle.memory.specs.Laws.{Precise, RowsJoin}
-use Rattle.memory.specs.Marks.{memory-words}
+use Rattle.memory.specs.Marks.{memory_words}
 use Rattle.models.specs.Follows.{DoesFollow, Against, enough, SmallShows, OneOfTwo, Exact}
 use Rattle.linked.specs.Generics.{GenericHolds}
 use Rattle.linked.specs.Knowing.{Agrees}
@@ -37,7 +37,7 @@ pub record Shown (q : claims.Question) (o p : List ℕ) (k : ℕ) : Type 0 where
   pub against : Against q.names q.first q.second names memory
   pub count : length memory ≡ k
   pub few : k ≤ enough (length q.first.atoms)
-  pub told : take (q.names + 2 * k) p ≡ names ++ memory-words memory
+  pub told : take (q.names + 2 * k) p ≡ names ++ memory_words memory
   pub behind : drop (q.names + 2 * k) p ≡ drop (q.names + 2 * k) o
 
 -- names and a memory are against it, but out has fewer words than names, and four for each cell and row of the first claim
@@ -89,7 +89,7 @@ RulesRight =
 -- The theorems that the answers rest on.
 pub record Theorems : Type 0 where
   -- words are at most one question
-  pub one-question : OneQuestion
+  pub one_question : OneQuestion
   -- a claim says which part of a memory it is
   pub precise : Precise
   -- rows end to end are a row, if the far end isn't in the first
@@ -99,7 +99,7 @@ pub record Theorems : Type 0 where
   -- it follows, or a small memory shows that it does not
   pub one_of_two : OneOfTwo
   -- where nothing forks, the claim holds of its generic memory
-  pub generic-holds : GenericHolds
+  pub generic_holds : GenericHolds
   -- for names of one pattern it follows, or one of few memories is against it
   pub exact : Exact
   -- what the rules of the search settle follows

@@ -27,7 +27,7 @@ pub record OneLeft (g : Goal) (k : Known) (p q : Part) : Type 0 where
 -- two parts are left, both smaller
 pub record TwoLeft (g : Goal) (k : Known) (p a b : Part) : Type 0 where
   pub first_part : PartOf g k a
-  pub second-part : PartOf g k b
+  pub second_part : PartOf g k b
   pub settles : PartSettled g k a → PartSettled g k b → PartSettled g k p
   pub first_smaller : size a < size p
   pub second_smaller : size b < size p

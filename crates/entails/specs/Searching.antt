@@ -37,13 +37,13 @@ ThenDrawn ls (Some j) r = Propagated ls j r
 -- r is known if x and y are the same besides, with what is drawn then
 pub record SameSide (k : Known) (x y : ℕ) (ls : List Atom) (r : Option Known) : Type 0 where
   pub joined : Option Known
-  pub is-joined : Joined k x y joined
+  pub is_joined : Joined k x y joined
   pub then-drawn : ThenDrawn ls joined r
 
 -- r is known if x and y are other besides, with what is drawn then
 pub record OtherSide (k : Known) (x y : ℕ) (ls : List Atom) (r : Option Known) : Type 0 where
   pub parted : Option Known
-  pub is-parted : Parted k x y parted
+  pub is_parted : Parted k x y parted
   pub then-drawn : ThenDrawn ls parted r
 
 -- the part is settled by the rules; or what is told is against the question

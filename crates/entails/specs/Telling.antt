@@ -12,8 +12,8 @@ use Rattle.entails.specs.declared.told.Told.{Told}
 use Rattle.entails.specs.declared.goals.Goal.{Goal}
 
 -- the memory whose words are told
-abbrev pub told-memory : Told → Memory
-told-memory t = memory_of (take (2 * t.count) t.cells)
+abbrev pub told_memory : Told → Memory
+told_memory t = memory_of (take (2 * t.count) t.cells)
 
 -- the two claims of a question
 abbrev pub first_of : Goal → claims.Claim
@@ -31,7 +31,7 @@ NotAgainst g n m = T (sound m) → Says n m (first_of g) → Says n m (second_of
 
 -- the first claim holds of them, and the second does not
 pub record IsAgainst (g : Goal) (n : Names) (m : Memory) : Type 0 where
-  pub sound-m : T (sound m)
+  pub sound_m : T (sound m)
   pub says : Says n m (first_of g)
   pub not : Says n m (second_of g) → ⊥
 
@@ -42,7 +42,7 @@ JudgedAgainst g n m false = NotAgainst g n m
 
 -- the told names and memory are against it, with no more than enough cells
 pub record ToldAgainst (g : Goal) (t : Told) : Type 0 where
-  pub against : Against g.names (first_of g) (second_of g) (take g.names t.names) (told-memory t)
+  pub against : Against g.names (first_of g) (second_of g) (take g.names t.names) (told_memory t)
   pub small : t.count ≤ enough (length (first_of g).atoms)
 
 -- what is told is against it; or this memory isn't

@@ -5,6 +5,8 @@
 // goes on with both sides of a pair of names (`sides`). Which memory and which pair, is a matter of speed (`wishing`,
 // `choosing`, `recents`). Where all is known of the names, few memories tell exactly (`exact`). A memory that is told is
 // made small (`shrinking`).
+#![tactic(auto)]
+
 pub mod choosing;
 pub mod deciding;
 pub mod exact;

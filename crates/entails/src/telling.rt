@@ -2,9 +2,9 @@
 ghost use Rattle.std.specs.Prelude.{◌≡◌, ℕ, ◌+◌, ◌<◌, ◌≤◌, [], ◌∷◌, ◌++◌};
 ghost use Rattle.claims.specs.Meaning.{atom_of};
 ghost use Rattle.linked.specs.Stands.{root};
-ghost use Rattle.models.specs.Generic.{linked, linked-through};
+ghost use Rattle.models.specs.Generic.{linked, linked_through};
 ghost use Rattle.matching.specs.Rules.{StandsAt};
-ghost use Rattle.entails.specs.Telling.{told-memory};
+ghost use Rattle.entails.specs.Telling.{told_memory};
 
 use crate::told::Told;
 use claims::Atom;
@@ -58,7 +58,7 @@ impl Told {
     fn push(&mut self, place: u32, leads: u32)
         requires { self.old.count < 128 }
         ensures names { self.new.names ≡ self.old.names }
-        ensures cell { told-memory self.new ≡ told-memory self.old ++ record { place = place; holds = leads } ∷ [] }
+        ensures cell { told_memory self.new ≡ told_memory self.old ++ record { place = place; holds = leads } ∷ [] }
         ensures count { self.new.count ≡ self.old.count + 1 }
     {
         let i = 2 * self.count;
@@ -71,7 +71,7 @@ impl Told {
     pub fn link(&mut self, atom: Atom)
         requires { self.old.count < 127 }
         ensures names { self.new.names ≡ self.old.names }
-        ensures cells { told-memory self.new ≡ told-memory self.old ++ linked self.old.names (atom_of atom) }
+        ensures cells { told_memory self.new ≡ told_memory self.old ++ linked self.old.names (atom_of atom) }
         ensures count { self.new.count ≤ self.old.count + 2 }
     {
         match atom {
@@ -94,7 +94,7 @@ impl Told {
     pub fn link_through(&mut self, atom: Atom, t: u32)
         requires { self.old.count < 127 }
         ensures names { self.new.names ≡ self.old.names }
-        ensures cells { told-memory self.new ≡ told-memory self.old ++ linked-through self.old.names (atom_of atom) t }
+        ensures cells { told_memory self.new ≡ told_memory self.old ++ linked_through self.old.names (atom_of atom) t }
         ensures count { self.new.count ≤ self.old.count + 2 }
     {
         match atom {

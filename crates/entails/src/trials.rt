@@ -8,7 +8,7 @@ ghost use Rattle.claims.specs.Meaning.{atom_of};
 ghost use Rattle.claims.specs.Memory.{Says, sound as sound-cells};
 ghost use Rattle.claims.specs.Words.{Limits};
 ghost use Rattle.models.specs.Generic.{stretched};
-ghost use Rattle.entails.specs.Telling.{told-memory, first_of, question_of, JudgedAgainst, TriedOne};
+ghost use Rattle.entails.specs.Telling.{told_memory, first_of, question_of, JudgedAgainst, TriedOne};
 
 use crate::goals::Goal;
 use crate::told::Told;
@@ -20,7 +20,7 @@ use memory::holds;
 pub fn write(told: &mut Told, atoms: &[Atom], i: usize, t: u32)
     requires { length atoms.now ≤ 63 + 1 }
     ensures names { told.new.names ≡ told.old.names }
-    ensures cells { told-memory told.new ≡ stretched told.old.names (map atom_of atoms.now) i t }
+    ensures cells { told_memory told.new ≡ stretched told.old.names (map atom_of atoms.now) i t }
 {
     told.clear();
     for (j, atom) in atoms.iter().enumerate() {
@@ -35,8 +35,8 @@ pub fn write(told: &mut Told, atoms: &[Atom], i: usize, t: u32)
 // Does the claim hold of what is told?
 fn is_so(claim: &Decoded, told: &Told, marks: &mut [u32]) -> bool
     requires room { 128 ≤ length marks.old }
-    requires sound { T (sound-cells (told-memory told.now)) }
-    ensures { Decides result (Says told.now.names (told-memory told.now) (decoded_claim claim.now)) }
+    requires sound { T (sound-cells (told_memory told.now)) }
+    ensures { Decides result (Says told.now.names (told_memory told.now) (decoded_claim claim.now)) }
 {
     let pures = &claim.pures[0..claim.shape.pures];
     let atoms = &claim.atoms[0..claim.shape.atoms];
@@ -48,7 +48,7 @@ fn is_so(claim: &Decoded, told: &Told, marks: &mut [u32]) -> bool
 // Is what is told against it: is the memory sound, does the first claim hold of it, and the second not?
 fn is_against(goal: &Goal, told: &Told, marks: &mut [u32]) -> bool
     requires { 128 ≤ length marks.old }
-    ensures { JudgedAgainst goal.now told.now.names (told-memory told.now) result }
+    ensures { JudgedAgainst goal.now told.now.names (told_memory told.now) result }
 {
     if !is_sound(&told.cells[0..2 * told.count]) {
         return false;

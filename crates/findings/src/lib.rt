@@ -1,5 +1,7 @@
 // What was found out about a claim, for people: the names that must be the same, those that can't be, and that the claim
 // can't be at all. Only what the claim doesn't say itself is told.
+#![tactic(auto)]
+
 ghost use Rattle.claims.specs.Meaning.{question_of};
 ghost use Rattle.claims.specs.Words.{Limits};
 

@@ -1,5 +1,7 @@
 // The program `holds`: reads claims and memories from files or from standard input, and tells of each claim
 // whether it holds of its memory, or why not.
+#![tactic(auto)]
+
 use anyhow::anyhow;
 use console::{Arguments, load_named};
 use memory_notation::{Answer, Cases, judge, report};

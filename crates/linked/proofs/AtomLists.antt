@@ -5,14 +5,14 @@ use Rattle.claims.specs.Memory.{Names, at, Memory, IsRow, Parts, none_p, left_p,
 use Rattle.linked.specs.Living.{Settled, Lives}
 use Rattle.linked.specs.declared.known.Known.{Known}
 use Rattle.memory.specs.Owners.{Empty}
-use Rattle.memory.proofs.Parts.{parts_comm, parts_assoc, parts_regroup, parts_none, none-parts, all_parts}
+use Rattle.memory.proofs.Parts.{parts_comm, parts_assoc, parts_regroup, parts_none, none_parts, all_parts}
 use Rattle.memory.proofs.Atoms.{atom_empty, empty_atom}
 
 -- what is dealt out to two lists is dealt out to the one behind the other
 pub dealt_split :
     {n : Names} (cs ds : List Atom) {m : Memory} → Dealt n (cs ++ ds) m →
     (a : Memory) × (b : Memory) × Parts a b m × Dealt n cs a × Dealt n ds b
-dealt_split [] ds {m} d = ([], m, none-parts m, no_more, d)
+dealt_split [] ds {m} d = ([], m, none_parts m, no_more, d)
 dealt_split (c ∷ cs) ds (one_more p h d) =
     let s = dealt_split cs ds d in
     let r = parts_regroup p s.2 in
@@ -23,24 +23,24 @@ pub dealt_join :
 dealt_join {n} {ds = ds} p no_more e = subst (λ u. Dealt n ds u) (parts_none p) e
 dealt_join p (one_more q h d) e = let r = parts_assoc p q in one_more r.1 h (dealt_join r.2 d e)
 
-one-dealt : {n : Names} {a : Atom} (m : Memory) → AtomHolds n a m → Dealt n (a ∷ []) m
-one-dealt m h = one_more (all_parts m) h no_more
+one_dealt : {n : Names} {a : Atom} (m : Memory) → AtomHolds n a m → Dealt n (a ∷ []) m
+one_dealt m h = one_more (all_parts m) h no_more
 
-dealt-one : {n : Names} {m : Memory} (a : Atom) → Dealt n (a ∷ []) m → AtomHolds n a m
-dealt-one {n} a (one_more p h no_more) = subst (λ u. AtomHolds n a u) (parts_none (parts_comm p)) h
+dealt_one : {n : Names} {m : Memory} (a : Atom) → Dealt n (a ∷ []) m → AtomHolds n a m
+dealt_one {n} a (one_more p h no_more) = subst (λ u. AtomHolds n a u) (parts_none (parts_comm p)) h
 
 -- an atom with other names for the same ends
-pub cell-alike :
+pub cell_alike :
     (n : Names) (x y a b : ℕ) → at n x ≡ at n a → at n y ≡ at n b → (m : Memory) →
     AtomHolds n (cell x y) m ↔ AtomHolds n (cell a b) m
-cell-alike n x y a b e f m =
+cell_alike n x y a b e f m =
     let P : ℕ → ℕ → Type 0 = λ u v. (u ≡ 0 → ⊥) × (m ≡ record { place = u; holds = v } ∷ []) in
     (subst₂ P e f, subst₂ P (sym e) (sym f))
 
-pub row-alike :
+pub row_alike :
     (n : Names) (x y a b : ℕ) → at n x ≡ at n a → at n y ≡ at n b → (m : Memory) →
     AtomHolds n (row x y) m ↔ AtomHolds n (row a b) m
-row-alike n x y a b e f m =
+row_alike n x y a b e f m =
     let P : ℕ → ℕ → Type 0 = λ u v. IsRow u v m in
     (subst₂ P e f, subst₂ P (sym e) (sym f))
 
@@ -52,10 +52,10 @@ module _ (n : Names) (cs ls : List Atom) (alike : (m : Memory) → Dealt n cs m 
   push_alike a b same m = (
     (λ d.
         let s = dealt_split cs (a ∷ []) d in
-        dealt_join s.2 ((alike s.0).0 s.3) (one-dealt s.1 ((same s.1).0 (dealt-one a s.4)))),
+        dealt_join s.2 ((alike s.0).0 s.3) (one_dealt s.1 ((same s.1).0 (dealt_one a s.4)))),
     (λ d.
         let s = dealt_split ls (b ∷ []) d in
-        dealt_join s.2 ((alike s.0).1 s.3) (one-dealt s.1 ((same s.1).1 (dealt-one b s.4)))),
+        dealt_join s.2 ((alike s.0).1 s.3) (one_dealt s.1 ((same s.1).1 (dealt_one b s.4)))),
   )
 
   -- one more that is empty
@@ -63,10 +63,10 @@ module _ (n : Names) (cs ls : List Atom) (alike : (m : Memory) → Dealt n cs m 
   push_empty a e m = (
     (λ d.
         let s = dealt_split cs (a ∷ []) d in
-        let z = atom_empty n a s.1 e (dealt-one a s.4) in
+        let z = atom_empty n a s.1 e (dealt_one a s.4) in
         let p : Parts s.0 [] m = subst (λ u. Parts s.0 u m) z s.2 in
         subst (λ u. Dealt n ls u) (parts_none (parts_comm p)) ((alike s.0).0 s.3)),
-    (λ d. dealt_join (all_parts m) ((alike m).1 d) (one-dealt [] (empty_atom n a e))),
+    (λ d. dealt_join (all_parts m) ((alike m).1 d) (one_dealt [] (empty_atom n a e))),
   )
 
 -- lists of live atoms grow with the list that they stand for

@@ -8,7 +8,7 @@ use Rattle.claims.specs.Meaning.{atom_of}
 use Rattle.claims.specs.declared.parts.Atom.{Atom as CodeAtom}
 use Rattle.memory.specs.Owners.{start}
 use Rattle.linked.specs.Bits.{has}
-use Rattle.linked.specs.Generics.{live, GoesOut, Fork, two, from-nowhere}
+use Rattle.linked.specs.Generics.{live, GoesOut, Fork, two, from_nowhere}
 use Rattle.linked.specs.Spare.{spare}
 use Rattle.linked.specs.Stands.{root}
 use Rattle.linked.specs.declared.bits.NameSet.{NameSet}
@@ -69,7 +69,7 @@ module _ (k : Known) (cs : List Atom) where
 
       -- or one that forks
       pub fork_nowhere : s ≡ 0 → Fork k cs
-      fork_nowhere z = from-nowhere e (subst (λ y. GoesOut k cs y e) z out)
+      fork_nowhere z = from_nowhere e (subst (λ y. GoesOut k cs y e) z out)
 
       pub fork_two : true ≡ has seen s → Fork k cs
       fork_two h = let (i, l, g) = so_far.only s (sym h) in two s i e l g out
@@ -77,7 +77,7 @@ module _ (k : Known) (cs : List Atom) where
     -- all are seen
     pub begun_all : length cs ≤ e → Fork k cs → ⊥
     begun_all h (two x i j l gi gj) = so_far.apart j (omega (arith, gj.one)) x i l gi gj
-    begun_all h (from-nowhere i g) = so_far.somewhere i (omega (arith, g.one)) g
+    begun_all h (from_nowhere i g) = so_far.somewhere i (omega (arith, g.one)) g
 
 -- of the code's atoms
 module _ (k : Known) (atoms : List CodeAtom) (i : ℕ) (h : i < length atoms) where

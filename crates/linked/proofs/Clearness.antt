@@ -17,8 +17,8 @@ not-not : (c : Bool) → ((c ≡ true → ⊥) → ⊥) → c ≡ true
 not-not true h = refl
 not-not false h = absurd (h (λ e. both_ways false refl e))
 
-pub marked-root : (s : List ℕ) (o : List NameSet) → Closed s o → (x y : ℕ) → x < 64 → y < 64 → Marked o x y → Marked o (root s x) (root s y)
-marked-root s o closed x y hx hy m = not-not _ (closed x y hx hy m)
+pub marked_root : (s : List ℕ) (o : List NameSet) → Closed s o → (x y : ℕ) → x < 64 → y < 64 → Marked o x y → Marked o (root s x) (root s y)
+marked_root s o closed x y hx hy m = not-not _ (closed x y hx hy m)
 
 -- of knowledge
 pub closed_of : (k : Known) → Closed k.stands k.others
@@ -38,7 +38,7 @@ module _ (s : List ℕ) (o p : List NameSet) (a b : ℕ) (ra : root s a ≡ a) (
     (closed : Closed s o) (clear : Clear s o) (add : Added o a b p) where
   pub added_closed : Closed s p
   added_closed x y hx hy m no-mark = no-mark
-      (⊎_elim (λ t. add.kept (root s x) (root s y) (marked-root s o closed x y hx hy t))
+      (⊎_elim (λ t. add.kept (root s x) (root s y) (marked_root s o closed x y hx hy t))
       (λ t. subst₂ (Marked p) (sym (ap (root s) t.0 ∙ ra)) (sym (ap (root s) t.1 ∙ rb)) add.new) (add.came x y m))
 
   pub added_clear : Clear s p
@@ -78,7 +78,7 @@ module _ (s : List ℕ) (o p : List NameSet) (a b : ℕ) (full : length s ≡ 64
   old_closed : (x y : ℕ) → x < 64 → y < 64 → Marked o x y → Marked p (root (set s b a) x) (root (set s b a) y)
   old_closed x y hx hy m =
       let d = clear x y hx hy m in
-      let c = marked-root s o closed x y hx hy m in
+      let c = marked_root s o closed x y hx hy m in
       ⊎_elim
       (λ e.
       subst₂ (Marked p) (sym (becomes x hx e)) (sym (stays y hy (λ f. d (e ∙ sym f)))) (carried.row (root s y) (subst (λ u. Marked o u (root s y)) e c)))

@@ -5,10 +5,10 @@ use Rattle.std.proofs.lemmas.Bool.{cases_eq}
 use Rattle.claims.specs.Memory.{Names, at}
 use Rattle.linked.specs.Bits.{has}
 use Rattle.linked.specs.Stands.{Falls, root, none, SameAs, Marked, Apart, Added}
-use Rattle.linked.specs.Knowing.{Agrees, known_same, known-other, Joined, Parted}
+use Rattle.linked.specs.Knowing.{Agrees, known_same, known_other, Joined, Parted}
 use Rattle.linked.specs.declared.known.Known.{Known}
 use Rattle.linked.specs.declared.bits.NameSet.{NameSet}
-use Rattle.linked.proofs.Roots.{root-same, root_below}
+use Rattle.linked.proofs.Roots.{root_same, root_below}
 use Rattle.linked.proofs.Carrying.{or_cases, or_left, or_right}
 
 -- one more otherness: exactly the names that agreed and have a and b other
@@ -75,10 +75,10 @@ part_made k j a b e add n = (
 module _ (k : Known) (x y : ℕ) (hx : x < 64) (hy : y < 64) where
   -- a name stands for what its representative stands for
   pub to_root : (n : Names) → Agrees k n → at n x ≡ at n (root k.stands x)
-  to_root n g = root-same k.stands n k.falls g.same x hx
+  to_root n g = root_same k.stands n k.falls g.same x hx
 
   to_root_y : (n : Names) → Agrees k n → at n y ≡ at n (root k.stands y)
-  to_root_y n g = root-same k.stands n k.falls g.same y hy
+  to_root_y n g = root_same k.stands n k.falls g.same y hy
 
   rx : root k.stands x < 64
   rx = omega (arith, root_below k.stands k.falls x hx)
@@ -89,8 +89,8 @@ module _ (k : Known) (x y : ℕ) (hx : x < 64) (hy : y < 64) where
   pub same_known : (n : Names) → Agrees k n → root k.stands x ≡ root k.stands y → at n x ≡ at n y
   same_known n g e = to_root n g ∙ ap (at n) e ∙ sym (to_root_y n g)
 
-  pub other-known : (n : Names) → Agrees k n → known-other k x y ≡ true → at n x ≡ at n y → ⊥
-  other-known n g o e =
+  pub other_known : (n : Names) → Agrees k n → known_other k x y ≡ true → at n x ≡ at n y → ⊥
+  other_known n g o e =
       let d = sym (to_root n g) ∙ e ∙ to_root_y n g in
       ⊎_elim (λ m. g.other (root k.stands x) (root k.stands y) rx ry m d)
       (λ m. g.other (root k.stands y) (root k.stands x) ry rx m (sym d))

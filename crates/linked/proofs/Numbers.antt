@@ -7,7 +7,7 @@ use Rattle.claims.specs.Memory.{Names, at}
 use Rattle.memory.specs.Owners.{start}
 use Rattle.std.proofs.lemmas.List.{get_or_default}
 use Rattle.models.specs.Generic.{ForkFree, generic}
-use Rattle.models.proofs.Generic.{generic-dealt}
+use Rattle.models.proofs.Generic.{generic_dealt}
 use Rattle.models.proofs.Forks.{fork_free_sound}
 use Rattle.linked.specs.Stands.{root}
 use Rattle.linked.specs.Knowing.{Agrees, known_same}
@@ -33,9 +33,9 @@ has-generic k cs f =
     let s = fork_free_sound (numbers k) cs f in
     record {
       agrees = numbers_agree k;
-      only-known = λ x y hx hy e. eq-eqb (root k.stands x) (root k.stands y) (sym (at-numbers k x hx) ∙ e ∙ at-numbers k y hy);
-      sound-m = s;
-      dealt = generic-dealt (numbers k) cs s;
+      only_known = λ x y hx hy e. eq-eqb (root k.stands x) (root k.stands y) (sym (at-numbers k x hx) ∙ e ∙ at-numbers k y hy);
+      sound_m = s;
+      dealt = generic_dealt (numbers k) cs s;
     }
 
 -- atoms that begin somewhere, and no two at one place

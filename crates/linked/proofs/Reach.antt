@@ -10,7 +10,7 @@ use Rattle.claims.specs.Meaning.{atom_of}
 use Rattle.claims.specs.declared.parts.Atom.{Atom as CodeAtom}
 use Rattle.memory.specs.Owners.{Owns, Passes, Empty, start}
 use Rattle.memory.proofs.Dealt.{one_owner, owner, owns_place, owns_dealt}
-use Rattle.memory.proofs.Parts.{sound-nowhere}
+use Rattle.memory.proofs.Parts.{sound_nowhere}
 use Rattle.linked.specs.Bits.{bit}
 use Rattle.linked.specs.Stands.{Marked}
 use Rattle.linked.specs.Spare.{spare}
@@ -49,7 +49,7 @@ module _ (k : Known) (cs : List Atom) (e s set : ℕ) (r : Reached cs e s set) w
   -- .. if it would be nowhere
   pub barred_nowhere : bit set 0 ≡ true → Barred k cs e s
   barred_nowhere b n m sm g o =
-      both_ways (here 0 m) (sound-nowhere m sm) (subst (λ p. here p m ≡ true) (sym (r n m sm o 0 b)) (owns_place o))
+      both_ways (here 0 m) (sound_nowhere m sm) (subst (λ p. here p m ≡ true) (sym (r n m sm o 0 b)) (owns_place o))
 
   -- .. if another cell would be there
   pub barred_cell :

@@ -1,7 +1,7 @@
 -- The way up from a name to the one that stands for it.
 --
 -- Where the entries fall, the way ends at a name that stands for itself (`root_stays`), and names that agree with the
--- entries stand for what their representatives stand for (`root-same`).
+-- entries stand for what their representatives stand for (`root_same`).
 use Rattle.std.proofs.Common.{◌≡◌, ℕ, zero, suc, ◌+◌, ◌-◌, ◌<◌, ◌≤◌, ◌⊎◌, List, length, get_or, set, sym, refl, ap, ◌∙◌, subst, inl, inr, ⊎_elim, eq-or-lt_of_le, arith}
 use Rattle.std.proofs.lemmas.List.{get_or-set_same, get_or-set_other}
 use Rattle.std.proofs.lemmas.Bool.{cases_eq}
@@ -34,18 +34,18 @@ unfolding up
 up_same s n f a zero x h = refl
 up_same s n f a (suc k) x h = a x h ∙ up_same s n f a k (get_or s x 0) (omega (arith, f x h))
 
-pub root-same : (s : List ℕ) (n : Names) → Falls s → SameAs s n → (x : ℕ) → x < 64 → at n x ≡ at n (root s x)
+pub root_same : (s : List ℕ) (n : Names) → Falls s → SameAs s n → (x : ℕ) → x < 64 → at n x ≡ at n (root s x)
 unfolding root
-root-same s n f a x h = up_same s n f a 64 x h
+root_same s n f a x h = up_same s n f a 64 x h
 
-pub up-below : (s : List ℕ) → Falls s → (k x : ℕ) → x < 64 → up k s x ≤ x
+pub up_below : (s : List ℕ) → Falls s → (k x : ℕ) → x < 64 → up k s x ≤ x
 unfolding up
-up-below s f zero x h = omega arith
-up-below s f (suc k) x h = omega (arith, f x h, up-below s f k (get_or s x 0) (omega (arith, f x h)))
+up_below s f zero x h = omega arith
+up_below s f (suc k) x h = omega (arith, f x h, up_below s f k (get_or s x 0) (omega (arith, f x h)))
 
 pub root_below : (s : List ℕ) → Falls s → (x : ℕ) → x < 64 → root s x ≤ x
 unfolding root
-root_below s f x h = up-below s f 64 x h
+root_below s f x h = up_below s f 64 x h
 
 -- more steps than x lead to a name that stands for itself
 up_ends : (s : List ℕ) → Falls s → (k x : ℕ) → x < 64 → x < k → get_or s (up k s x) 0 ≡ up k s x

@@ -6,7 +6,7 @@ use Rattle.std.proofs.lemmas.List.{get_or-set_same, get_or-set_other}
 use Rattle.std.proofs.lemmas.Bool.{cases_eq, cases_Bool}
 use Rattle.linked.specs.Bits.{has}
 use Rattle.linked.specs.Stands.{Falls, root, none, Marked, Carried, Added}
-use Rattle.linked.specs.Knowing.{known_same, known-other, undecided, undecided_of, open_pairs, Closer}
+use Rattle.linked.specs.Knowing.{known_same, known_other, undecided, undecided_of, open_pairs, Closer}
 use Rattle.linked.specs.declared.known.Known.{Known}
 use Rattle.linked.specs.declared.bits.NameSet.{NameSet}
 use Rattle.linked.proofs.Roots.{root_below}
@@ -22,11 +22,11 @@ not_both true o e = absurd (both_ways false refl e)
 not_both false true e = absurd (both_ways false refl e)
 not_both false false e = (refl, refl)
 
-pub decided-same : (k : Known) (x y : ℕ) → root k.stands x ≡ root k.stands y → undecided k x y ≡ false
-decided-same k x y e = ap (λ b. not b && not (known-other k x y)) (eq-eqb (root k.stands x) (root k.stands y) e)
+pub decided_same : (k : Known) (x y : ℕ) → root k.stands x ≡ root k.stands y → undecided k x y ≡ false
+decided_same k x y e = ap (λ b. not b && not (known_other k x y)) (eq-eqb (root k.stands x) (root k.stands y) e)
 
-pub decided-other : (k : Known) (x y : ℕ) → known-other k x y ≡ true → undecided k x y ≡ false
-decided-other k x y e = ap (λ b. not (known_same k x y) && not b) e ∙ right (known_same k x y)
+pub decided_other : (k : Known) (x y : ℕ) → known_other k x y ≡ true → undecided k x y ≡ false
+decided_other k x y e = ap (λ b. not (known_same k x y) && not b) e ∙ right (known_same k x y)
   where
     right : (b : Bool) → (not b && false) ≡ false
     right true = refl
@@ -39,18 +39,18 @@ closer :
     ((x y : ℕ) → x < 64 → y < 64 → (root k.stands x ≡ root k.stands y → ⊥) → Marked k.others (root k.stands x) (root k.stands y) → Marked j.others (root j.stands x) (root j.stands y)) →
     Closer k j
 closer k j same marked x y hx hy u =
-    let n = not_both (known_same j x y) (known-other j x y) u in
+    let n = not_both (known_same j x y) (known_other j x y) u in
     let d : root k.stands x ≡ root k.stands y → ⊥ =
     λ e. eqb-false (root j.stands x) (root j.stands y) n.0 (same x y hx hy e) in
-    neither (known_same k x y) (known-other k x y) (ne_eqb (root k.stands x) (root k.stands y) d)
+    neither (known_same k x y) (known_other k x y) (ne_eqb (root k.stands x) (root k.stands y) d)
     (⊎_elim
     (λ t.
     ⊎_elim
-    (λ m. absurd (both_ways (known-other j x y) n.1 (or_left _ _ (marked x y hx hy d m))))
-    (λ m. absurd (both_ways (known-other j x y) n.1 (or_right (has (get_or j.others (root j.stands x) none) (root j.stands y)) _ (marked y x hy hx (λ e. d (sym e)) m))))
+    (λ m. absurd (both_ways (known_other j x y) n.1 (or_left _ _ (marked x y hx hy d m))))
+    (λ m. absurd (both_ways (known_other j x y) n.1 (or_right (has (get_or j.others (root j.stands x) none) (root j.stands y)) _ (marked y x hy hx (λ e. d (sym e)) m))))
     (or_cases (has (get_or k.others (root k.stands x) none) (root k.stands y)) _ t))
     (λ f. f)
-    (cases_Bool (known-other k x y)))
+    (cases_Bool (known_other k x y)))
 
 -- counting
 one_or_none : (b c : Bool) → (b ≡ true → c ≡ true) → cond b 1 0 ≤ cond c 1 0
@@ -141,4 +141,4 @@ module _ (k j : Known) (x y a b : ℕ) (hx : x < 64) (hy : y < 64) (ra : a ≡ r
   pub part_fewer : undecided k x y ≡ true → open_pairs j < open_pairs k
   part_fewer u =
       fewer_pairs k j part_closer x y hx hy u
-      (decided-other j x y (or_left _ _ (subst₂ (Marked j.others) (ra ∙ sym (ap (λ s. root s x) stands)) (rb ∙ sym (ap (λ s. root s y) stands)) add.new)))
+      (decided_other j x y (or_left _ _ (subst₂ (Marked j.others) (ra ∙ sym (ap (λ s. root s x) stands)) (rb ∙ sym (ap (λ s. root s y) stands)) add.new)))

@@ -17,8 +17,8 @@ numbers k = map (root k.stands) (range_with_len 0 64)
 -- the atoms hold of the generic memory with these names, which agree with what is known and are the same only where that is known
 pub record HasGeneric (k : Known) (cs : List Atom) : Type 0 where
   pub agrees : Agrees k (numbers k)
-  pub only-known : (x y : ℕ) → x < 64 → y < 64 → at (numbers k) x ≡ at (numbers k) y → known_same k x y ≡ true
-  pub sound-m : T (sound (generic (numbers k) cs))
+  pub only_known : (x y : ℕ) → x < 64 → y < 64 → at (numbers k) x ≡ at (numbers k) y → known_same k x y ≡ true
+  pub sound_m : T (sound (generic (numbers k) cs))
   pub dealt : Dealt (numbers k) cs (generic (numbers k) cs)
 
 -- the name that stands for where the atom number i begins
@@ -33,7 +33,7 @@ ApartSoFar k cs e =
 -- a memory for the atoms, with names that agree with what is known and are the same only where that is known
 pub record SettledMemory (k : Known) (cs : List Atom) : Type 0 where
   pub memory : Memory
-  pub sound-m : T (sound memory)
+  pub sound_m : T (sound memory)
   pub dealt : Dealt (numbers k) cs memory
   pub agrees : Agrees k (numbers k)
-  pub only-known : (x y : ℕ) → x < 64 → y < 64 → at (numbers k) x ≡ at (numbers k) y → known_same k x y ≡ true
+  pub only_known : (x y : ℕ) → x < 64 → y < 64 → at (numbers k) x ≡ at (numbers k) y → known_same k x y ≡ true

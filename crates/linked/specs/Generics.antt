@@ -26,7 +26,7 @@ pub record GoesOut (k : Known) (cs : List Atom) (x i : ℕ) : Type 0 where
 -- two atoms that are not known to be empty go out from one class of names, or one goes out from nowhere
 pub data Fork (k : Known) (cs : List Atom) : Type 0 where
   two : (x i j : ℕ) → i < j → GoesOut k cs x i → GoesOut k cs x j → Fork k cs
-  from-nowhere : (i : ℕ) → GoesOut k cs 0 i → Fork k cs
+  from_nowhere : (i : ℕ) → GoesOut k cs 0 i → Fork k cs
 
 -- does nothing fork?
 abbrev pub Forkless : Known → List Atom → Bool → Type 0
@@ -34,16 +34,16 @@ Forkless k cs true = Fork k cs → ⊥
 Forkless k cs false = Fork k cs
 
 -- m names, each at the number of the one that stands for it
-abbrev pub first-numbers : ℕ → Known → Names
-first-numbers m k = map (root k.stands) (range_with_len 0 m)
+abbrev pub first_numbers : ℕ → Known → Names
+first_numbers m k = map (root k.stands) (range_with_len 0 m)
 
 -- The claim holds of these m names and their generic memory. They are the first of 64 that agree with what is known, and
 -- are the same only where that is known.
 pub record Generic (m : ℕ) (k : Known) (c : Claim) : Type 0 where
-  pub says : Says (first-numbers m k) (generic (first-numbers m k) c.atoms) c
-  pub is-sound : T (sound (generic (first-numbers m k) c.atoms))
-  pub agrees : Agrees k (first-numbers 64 k)
-  pub only-known : (x y : ℕ) → x < m → y < m → at (first-numbers m k) x ≡ at (first-numbers m k) y → known_same k x y ≡ true
+  pub says : Says (first_numbers m k) (generic (first_numbers m k) c.atoms) c
+  pub is_sound : T (sound (generic (first_numbers m k) c.atoms))
+  pub agrees : Agrees k (first_numbers 64 k)
+  pub only_known : (x y : ℕ) → x < m → y < m → at (first_numbers m k) x ≡ at (first_numbers m k) y → known_same k x y ≡ true
 
 -- that is so of every claim over m names with these atoms whose same and other are known
 abbrev pub HoldsGeneric : Known → List Atom → Type 0

@@ -15,8 +15,8 @@ abbrev pub known_same : Known → ℕ → ℕ → Bool
 known_same k x y = root k.stands x == root k.stands y
 
 -- x and y are known to be other
-abbrev pub known-other : Known → ℕ → ℕ → Bool
-known-other k x y =
+abbrev pub known_other : Known → ℕ → ℕ → Bool
+known_other k x y =
     has (slice_index_or k.others (root k.stands x) none) (root k.stands y)
     || has (slice_index_or k.others (root k.stands y) none) (root k.stands x)
 
@@ -32,7 +32,7 @@ Parted k x y None = (n : Names) → Agrees k n → (at n x ≢ at n y) → ⊥
 
 -- nothing is known of whether x and y are the same
 abbrev pub undecided : Known → ℕ → ℕ → Bool
-undecided k x y = not (known_same k x y) && not (known-other k x y)
+undecided k x y = not (known_same k x y) && not (known_other k x y)
 
 -- of how many of the first i pairs of names that is so: pair number i is of the names i / 64 and i % 64
 abbrev pub undecided_of : Known → ℕ → ℕ

@@ -11,7 +11,7 @@ use Rattle.linked.specs.declared.known.Known.{Known}
 -- for names that agree with what is known, the atom b says what a says
 pub record Settled (k : Known) (a b : Atom) : Type 0 where
   pub start_small : start b < 64
-  pub end-small : end b < 64
+  pub end_small : end b < 64
   pub alike : (n : Names) → Agrees k n → (m : Memory) → AtomHolds n a m ↔ AtomHolds n b m
 
 -- for names that agree with what is known, the atoms ls say of a memory what the atoms cs say

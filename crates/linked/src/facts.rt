@@ -2,7 +2,7 @@
 ghost use Rattle.std.specs.Prelude.{◌≡◌, ℕ, ◌<◌, length, Some, ◌≢◌, slice_index};
 ghost use Rattle.claims.specs.Memory.{Names};
 ghost use Rattle.linked.specs.Stands.{Added, Marked, root};
-ghost use Rattle.linked.specs.Knowing.{Agrees, known_same, known-other, Joined, Parted, Closer, Fewer, NoMore};
+ghost use Rattle.linked.specs.Knowing.{Agrees, known_same, known_other, Joined, Parted, Closer, Fewer, NoMore};
 
 use crate::bits::NameSet;
 use crate::carries::{add, carry};
@@ -50,7 +50,7 @@ impl Known {
     pub fn other(&self, x: u8, y: u8) -> bool
         requires x_small { x < 64 }
         requires y_small { y < 64 }
-        ensures { result ≡ known-other self.now x y }
+        ensures { result ≡ known_other self.now x y }
     {
         let a = self.find(x);
         let b = self.find(y);

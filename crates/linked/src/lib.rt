@@ -4,6 +4,8 @@
 // other. `facts` asks and changes it, exactly. `assume` takes up a claim's same and other; `propagate` draws from its
 // cells and rows what must be the same, till nothing new comes; `learn` does both for a whole claim. Where nothing
 // `forks`, the claim holds of a memory that is made of what is known; `settle` tells whether that is so.
+#![tactic(auto)]
+
 pub mod assume;
 pub mod atoms;
 pub mod barring;

@@ -8,7 +8,7 @@ use Rattle.claims.specs.Claims.{Atom, cell, row}
 use Rattle.claims.specs.Memory.{Parts, none_p, left_p, right_p}
 use Rattle.memory.specs.Marks.{unmarked}
 use Rattle.memory.specs.Owners.{start, end}
-use Rattle.memory.specs.Taking.{Put, put-here, put-later}
+use Rattle.memory.specs.Taking.{Put, put_here, put_later}
 use Rattle.memory.proofs.Parts.{parts_none}
 use Rattle.memory.proofs.Marking.{mark_out}
 use Rattle.linked.specs.declared.known.Known.{Known}
@@ -17,16 +17,16 @@ use Rattle.matching.specs.Using.{free, IsFree, Goes_on}
 use Rattle.matching.specs.declared.used.Used.{Used}
 
 -- taking one element out is putting it in, the other way round
-pub one-put : {A : Type 0} {a : A} {b m : List A} → Parts (a ∷ []) b m → Put a b m
-one-put {A} {a} (left_p {m = m} t) = subst (λ l. Put a l (a ∷ m)) (sym (parts_none t)) put-here
-one-put (right_p t) = put-later (one-put t)
+pub one_put : {A : Type 0} {a : A} {b m : List A} → Parts (a ∷ []) b m → Put a b m
+one_put {A} {a} (left_p {m = m} t) = subst (λ l. Put a l (a ∷ m)) (sym (parts_none t)) put_here
+one_put (right_p t) = put_later (one_put t)
 
 pub taken_out :
     (ls : List Atom) (own : ℕ) (u v : Used) (e : ℕ) → e < own → own ≤ length ls → length ls ≤ 64 → IsFree u e →
     v.marks ≡ set u.marks e 1 → Put (get_or ls e (row 0 0)) (free own v ls) (free own u ls)
 taken_out ls own u v e within all few there marked =
     let out = mark_out u.marks (take own ls) e (row 0 0) (omega (arith, length-take-le own ls all)) (omega (arith, u.all)) there in
-    one-put
+    one_put
     (subst₂ (λ a w. Parts (a ∷ []) (unmarked w (take own ls)) (unmarked u.marks (take own ls))) (get_or-take own ls e (row 0 0) within) (sym marked) out)
 
 pub goes_over :

@@ -1,7 +1,7 @@
 -- Lists of live atoms that grow and are divided.
 --
 -- live_push: one atom more; list_on: as far as an index; below_64: their names are below 64.
--- parts-left, parts_right: one more in a part; unmarked-on, unmarked-past: one more that isn't marked, or is.
+-- parts_left, parts_right: one more in a part; unmarked_on, unmarked_past: one more that isn't marked, or is.
 use Rattle.std.proofs.Common.{◌≡◌, ℕ, zero, suc, ◌+◌, ◌-◌, ◌<◌, ◌≤◌, List, [], ◌∷◌, ◌++◌, map, length, get_or, take, sym, refl, ap, ◌∙◌, subst, subst₂, arith}
 use Rattle.std.specs.List.{AllByRecursion as All}
 use Rattle.std.proofs.lemmas.List.{map_push, take_more, get_or_default, length-take-le}
@@ -37,10 +37,10 @@ pub list_on :
     {A : Type 0} (xs : List A) (j : ℕ) (a : A) → j < length xs → ((d : A) → get_or xs j d ≡ a) → take (j + 1) xs ≡ take j xs ++ a ∷ []
 list_on xs j a h is = take_more xs j a h ∙ ap (λ x. take j xs ++ x ∷ []) (is a)
 
-pub parts-left : {A : Type 0} {a b m : List A} (x : A) → Parts a b m → Parts (a ++ x ∷ []) b (m ++ x ∷ [])
-parts-left x none_p = left_p none_p
-parts-left x (left_p t) = left_p (parts-left x t)
-parts-left x (right_p t) = right_p (parts-left x t)
+pub parts_left : {A : Type 0} {a b m : List A} (x : A) → Parts a b m → Parts (a ++ x ∷ []) b (m ++ x ∷ [])
+parts_left x none_p = left_p none_p
+parts_left x (left_p t) = left_p (parts_left x t)
+parts_left x (right_p t) = right_p (parts_left x t)
 
 pub parts_right : {A : Type 0} {a b m : List A} (x : A) → Parts a b m → Parts a (b ++ x ∷ []) (m ++ x ∷ [])
 parts_right x none_p = right_p none_p
@@ -52,26 +52,26 @@ unmarked-none [] = refl
 unmarked-none (zero ∷ w) = refl
 unmarked-none (suc k ∷ w) = refl
 
-pub unmarked-on :
+pub unmarked_on :
     {A : Type 0} (w : List ℕ) (xs : List A) (x : A) → length xs < length w → get_or w (length xs) 0 ≡ 0 →
     unmarked w (xs ++ x ∷ []) ≡ unmarked w xs ++ x ∷ []
-unmarked-on [] xs x l e = absurd (omega arith)
-unmarked-on (zero ∷ []) [] x l e = refl
-unmarked-on (zero ∷ k ∷ w) [] x l e = ap (λ u. x ∷ u) (unmarked-none (k ∷ w))
-unmarked-on (suc k ∷ w) [] x l e = absurd (omega arith)
-unmarked-on (zero ∷ w) (y ∷ xs) x l e = ap (λ u. y ∷ u) (unmarked-on w xs x (omega arith) e)
-unmarked-on (suc k ∷ w) (y ∷ xs) x l e = unmarked-on w xs x (omega arith) e
+unmarked_on [] xs x l e = absurd (omega arith)
+unmarked_on (zero ∷ []) [] x l e = refl
+unmarked_on (zero ∷ k ∷ w) [] x l e = ap (λ u. x ∷ u) (unmarked-none (k ∷ w))
+unmarked_on (suc k ∷ w) [] x l e = absurd (omega arith)
+unmarked_on (zero ∷ w) (y ∷ xs) x l e = ap (λ u. y ∷ u) (unmarked_on w xs x (omega arith) e)
+unmarked_on (suc k ∷ w) (y ∷ xs) x l e = unmarked_on w xs x (omega arith) e
 
-pub unmarked-past :
+pub unmarked_past :
     {A : Type 0} (w : List ℕ) (xs : List A) (x : A) → length xs < length w → (get_or w (length xs) 0 ≡ 0 → ⊥) →
     unmarked w (xs ++ x ∷ []) ≡ unmarked w xs
-unmarked-past [] xs x l e = absurd (omega arith)
-unmarked-past (zero ∷ w) [] x l e = absurd (e refl)
-unmarked-past (suc k ∷ []) [] x l e = refl
-unmarked-past (suc k ∷ zero ∷ w) [] x l e = refl
-unmarked-past (suc k ∷ suc j ∷ w) [] x l e = refl
-unmarked-past (zero ∷ w) (y ∷ xs) x l e = ap (λ u. y ∷ u) (unmarked-past w xs x (omega arith) e)
-unmarked-past (suc k ∷ w) (y ∷ xs) x l e = unmarked-past w xs x (omega arith) e
+unmarked_past [] xs x l e = absurd (omega arith)
+unmarked_past (zero ∷ w) [] x l e = absurd (e refl)
+unmarked_past (suc k ∷ []) [] x l e = refl
+unmarked_past (suc k ∷ zero ∷ w) [] x l e = refl
+unmarked_past (suc k ∷ suc j ∷ w) [] x l e = refl
+unmarked_past (zero ∷ w) (y ∷ xs) x l e = ap (λ u. y ∷ u) (unmarked_past w xs x (omega arith) e)
+unmarked_past (suc k ∷ w) (y ∷ xs) x l e = unmarked_past w xs x (omega arith) e
 
 pub empty_list : (l : Live) → l.count ≡ 0 → atoms_of l ≡ []
 empty_list l e = ap (λ i. map atom_of (take i l.atoms)) e
@@ -101,9 +101,9 @@ module _ (l : Live) (w : List ℕ) (a b r : Live) (j : ℕ) (x : CodeAtom) (with
   divided_free more count free =
       let grown = live_push a r x more in (
         omega (arith, so_far.0),
-        subst₂ (λ u v. Parts u (atoms_of b) v) (sym grown) (sym further) (parts-left (atom_of x) so_far.1),
+        subst₂ (λ u v. Parts u (atoms_of b) v) (sym grown) (sym further) (parts_left (atom_of x) so_far.1),
         grown ∙ ap (λ u. u ++ atom_of x ∷ []) so_far.2 ∙
-            sym (unmarked-on w (take j (atoms_of l)) (atom_of x) (omega (arith, upto, l.few)) (ap (λ i. get_or w i 0) upto ∙ free)) ∙ ap (unmarked w) (sym further),
+            sym (unmarked_on w (take j (atoms_of l)) (atom_of x) (omega (arith, upto, l.few)) (ap (λ i. get_or w i 0) upto ∙ free)) ∙ ap (unmarked w) (sym further),
       )
 
   pub divided_marked :
@@ -114,7 +114,7 @@ module _ (l : Live) (w : List ℕ) (a b r : Live) (j : ℕ) (x : CodeAtom) (with
         omega (arith, so_far.0),
         subst₂ (λ u v. Parts (atoms_of a) u v) (sym grown) (sym further) (parts_right (atom_of x) so_far.1),
         so_far.2 ∙
-            sym (unmarked-past w (take j (atoms_of l)) (atom_of x) (omega (arith, upto, l.few)) (λ e. marked (sym (ap (λ i. get_or w i 0) upto) ∙ e))) ∙ ap (unmarked w) (sym further),
+            sym (unmarked_past w (take j (atoms_of l)) (atom_of x) (omega (arith, upto, l.few)) (λ e. marked (sym (ap (λ i. get_or w i 0) upto) ∙ e))) ∙ ap (unmarked w) (sym further),
       )
 
 atom_small : (a : Atom) → start a < 64 → end a < 64 → AtomBelow 64 a

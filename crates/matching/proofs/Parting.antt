@@ -8,7 +8,7 @@ use Rattle.std.proofs.lemmas.List.{append-nil, append_assoc, drop_more, drop_all
 use Rattle.claims.specs.Claims.{Atom, Claim}
 use Rattle.claims.specs.Memory.{Names, Memory, Parts, Dealt}
 use Rattle.memory.specs.Marks.{unmarked}
-use Rattle.memory.specs.Taking.{Put, put-here, put-later}
+use Rattle.memory.specs.Taking.{Put, put_here, put_later}
 use Rattle.memory.proofs.Parts.{parts_comm, parts_assoc, parts_regroup}
 use Rattle.linked.specs.Living.{Lives, atoms_of}
 use Rattle.linked.specs.declared.atoms.Live.{Live}
@@ -20,7 +20,7 @@ use Rattle.matching.specs.Parting.{own_of, wanted_of, whole_of, size, Regrouped,
 use Rattle.matching.specs.declared.parts.Part.{Part}
 use Rattle.matching.specs.Using.{free, IsFree}
 use Rattle.matching.specs.declared.used.Used.{Used}
-use Rattle.matching.proofs.Rules.{parts-dealt, dealt-parts}
+use Rattle.matching.proofs.Rules.{parts_dealt, dealt_parts}
 use Rattle.matching.proofs.Consuming.{all_free}
 
 pub lives_append : (k : Known) (os es ps fs : List Atom) → Lives k os ps → Lives k es fs → Lives k (os ++ es) (ps ++ fs)
@@ -33,19 +33,19 @@ pub regrouped : {os ps qs : List Atom} (es : List Atom) → Parts ps qs os → R
 regrouped {os} {ps} {qs} es u n m = (
   (λ d.
       let (p, q, t, dp, dq) = dealt_split os es d in
-      let (p1, p2, v, d1, d2) = parts-dealt u dp in
+      let (p1, p2, v, d1, d2) = parts_dealt u dp in
       let (e, t1, t2) = parts_assoc t v in
       dealt_join t1 d1 (dealt_join (parts_comm t2) dq d2)),
   (λ d.
       let (p1, e, t, d1, de) = dealt_split ps (es ++ qs) d in
       let (q, p2, v, dq, d2) = dealt_split es qs de in
       let (p, t1, t2) = parts_regroup t (parts_comm v) in
-      dealt_join t2 (dealt-parts u t1 d1 d2) dq),
+      dealt_join t2 (dealt_parts u t1 d1 d2) dq),
 )
 
 put_middle : {A : Type 0} (xs : List A) (a : A) (ys : List A) → Put a (xs ++ ys) (xs ++ a ∷ ys)
-put_middle [] a ys = put-here
-put_middle (x ∷ xs) a ys = put-later (put_middle xs a ys)
+put_middle [] a ys = put_here
+put_middle (x ∷ xs) a ys = put_later (put_middle xs a ys)
 
 -- the part's own atoms are those in front of all
 pub own_front : (l : Live) (es : List Atom) → take l.count (atoms_of l ++ es) ≡ atoms_of l
@@ -98,9 +98,9 @@ cut_two p a b own-one own-rest wanted-one wanted-rest own wanted one rest few-on
     record {
       own = subst₂ (λ x y. Parts (atoms_of x) (atoms_of y) (own_of p)) (sym one.own) (sym rest.own) (parts_comm own);
       wanted = subst₂ (λ x y. Parts (atoms_of x) (atoms_of y) (wanted_of p)) (sym one.wanted) (sym rest.wanted) (parts_comm wanted);
-      first-whole =
+      first_whole =
           subst₂ (λ x y. Regrouped (whole_of p) (atoms_of x ++ y)) (sym one.own) (sym one.others) (regrouped (atoms_of p.others) (parts_comm own));
-      second-whole = subst₂ (λ x y. Regrouped (whole_of p) (atoms_of x ++ y)) (sym rest.own) (sym rest.others) (regrouped (atoms_of p.others) own);
+      second_whole = subst₂ (λ x y. Regrouped (whole_of p) (atoms_of x ++ y)) (sym rest.own) (sym rest.others) (regrouped (atoms_of p.others) own);
       first_smaller = subst₂ (λ (x y : Live). x.count + y.count < size p) (sym one.own) (sym one.wanted) few-one;
       second_smaller = subst₂ (λ (x y : Live). x.count + y.count < size p) (sym rest.own) (sym rest.wanted) few-rest;
     }

@@ -1,6 +1,6 @@
 -- The rules of the search are right.
 --
--- made_dealt: what an atom is made of can be taken out as that atom; parts-dealt, dealt-parts: so can parts of a list.
+-- made_dealt: what an atom is made of can be taken out as that atom; parts_dealt, dealt_parts: so can parts of a list.
 -- closed_holds: what the rules say is so; all_settled: so the second claim holds wherever the first does.
 use Rattle.std.proofs.Common.{◌≡◌, ℕ, ◌<◌, ◌≤◌, Bool, true, false, not, ◌&&◌, T, eqb, ◌⊎◌, ◌↔◌, List, [], ◌∷◌, length, get_or, Some, None, Option, sym, refl, ap, ◌∙◌, subst, subst₂, inl, inr, ⊎_elim, arith}
 use Rattle.std.specs.List.{AllByRecursion as All}
@@ -10,19 +10,19 @@ use Rattle.claims.specs.Words.{PureBelow}
 use Rattle.claims.specs.Memory.{Names, at, Memory, here, sound, Parts, none_p, left_p, right_p, IsRow, PureHolds, AtomHolds, Dealt, no_more, one_more, Says}
 use Rattle.memory.specs.Owners.{start, end, Owns}
 use Rattle.memory.specs.Taking.{Takes, Put}
-use Rattle.memory.proofs.Parts.{parts_comm, parts_assoc, parts_regroup, parts_none, none-parts, all_parts, not_true_false, sound_right}
+use Rattle.memory.proofs.Parts.{parts_comm, parts_assoc, parts_regroup, parts_none, none_parts, all_parts, not_true_false, sound_right}
 use Rattle.memory.proofs.Rows.{takes_row_none}
 use Rattle.memory.proofs.Atoms.{takes_row_atom}
 use Rattle.memory.proofs.Dealt.{dealt_take_out, dealt_put_in, owns_from}
 use Rattle.models.specs.Generic.{Like}
 use Rattle.models.specs.Follows.{FollowsLike}
 use Rattle.linked.specs.Stands.{root}
-use Rattle.linked.specs.Knowing.{Agrees, known_same, known-other, undecided, Joined, Parted}
+use Rattle.linked.specs.Knowing.{Agrees, known_same, known_other, undecided, Joined, Parted}
 use Rattle.linked.specs.Living.{Lives}
 use Rattle.linked.specs.Reaching.{Barred}
 use Rattle.linked.specs.Propagating.{Propagated}
 use Rattle.linked.specs.declared.known.Known.{Known}
-use Rattle.linked.proofs.Knowledge.{to_root, same_known, other-known}
+use Rattle.linked.proofs.Knowledge.{to_root, same_known, other_known}
 use Rattle.matching.specs.Rules.{PureKnown, MadeOf, arrived, over, Made, made_cell, made_row, StandsAt, Total, Closed, no_names, drawn, cases, renamed, taken, in_parts, nothing_left, pattern, Met, HoldsFor}
 
 -- A memory is dealt out to all atoms ls, with names that agree with what is known.
@@ -55,26 +55,26 @@ module _ (k : Known) (ls : List Atom) (n : Names) (m : Memory) (s : T (sound m))
   made_dealt (made_row made) parts d = made_row_out made parts d
 
 -- a list of atoms in two parts
-pub parts-dealt :
+pub parts_dealt :
     {n : Names} {os ps qs : List Atom} {m : Memory} → Parts ps qs os → Dealt n os m →
     (a : Memory) × (b : Memory) × Parts a b m × Dealt n ps a × Dealt n qs b
-parts-dealt none_p d = ([], _, none-parts _, no_more, d)
-parts-dealt (left_p u) (one_more t h d) =
-    let (a, b, v, da, db) = parts-dealt u d in
+parts_dealt none_p d = ([], _, none_parts _, no_more, d)
+parts_dealt (left_p u) (one_more t h d) =
+    let (a, b, v, da, db) = parts_dealt u d in
     let (whole, v1, v2) = parts_regroup t v in
     (whole, b, v2, one_more v1 h da, db)
-parts-dealt (right_p u) (one_more t h d) =
-    let (a, b, v, da, db) = parts-dealt u d in
+parts_dealt (right_p u) (one_more t h d) =
+    let (a, b, v, da, db) = parts_dealt u d in
     let (whole, v1, v2) = parts_regroup t (parts_comm v) in
     (a, whole, parts_comm v2, da, one_more v1 h db)
 
-pub dealt-parts :
+pub dealt_parts :
     {n : Names} {os ps qs : List Atom} {a b m : Memory} → Parts ps qs os → Parts a b m → Dealt n ps a → Dealt n qs b → Dealt n os m
-dealt-parts {n} none_p t no_more d = subst (λ u. Dealt n [] u) (parts_none t) d
-dealt-parts (left_p u) t (one_more v h da) db = let (e, v1, v2) = parts_assoc t v in one_more v1 h (dealt-parts u v2 da db)
-dealt-parts (right_p u) t da (one_more v h db) =
+dealt_parts {n} none_p t no_more d = subst (λ u. Dealt n [] u) (parts_none t) d
+dealt_parts (left_p u) t (one_more v h da) db = let (e, v1, v2) = parts_assoc t v in one_more v1 h (dealt_parts u v2 da db)
+dealt_parts (right_p u) t da (one_more v h db) =
     let (e, v1, v2) = parts_assoc (parts_comm t) v in
-    one_more v1 h (dealt-parts u (parts_comm v2) da db)
+    one_more v1 h (dealt_parts u (parts_comm v2) da db)
 
 -- what is known of the pures holds
 pures_hold : (k : Known) (n : Names) → Agrees k n → (ps : List Pure) → All (PureBelow 64) ps → All (PureKnown k) ps → All (PureHolds n) ps
@@ -84,13 +84,13 @@ pures_hold k n g (same x y ∷ ps) below h = (
   pures_hold k n g ps below.1 h.1,
 )
 pures_hold k n g (other x y ∷ ps) below h =
-    (other-known k x y below.0.0 below.0.1 n g h.0, pures_hold k n g ps below.1 h.1)
+    (other_known k x y below.0.0 below.0.1 n g h.0, pures_hold k n g ps below.1 h.1)
 
 -- two tests that fail leave the third
-decided-other : (a b : Bool) → a ≡ false → (not a && not b) ≡ false → b ≡ true
-decided-other a true p q = refl
-decided-other true false p q = absurd (both_ways true p refl)
-decided-other false false p q = absurd (both_ways true q refl)
+decided_other : (a b : Bool) → a ≡ false → (not a && not b) ≡ false → b ≡ true
+decided_other a true p q = refl
+decided_other true false p q = absurd (both_ways true p refl)
+decided_other false false p q = absurd (both_ways true q refl)
 
 -- where all is known, names that agree have the pattern of those that stand for their classes
 pub total_like :
@@ -104,48 +104,48 @@ total_like m k g n small total stands agrees x y lx ly =
       (λ e.
           ⊎_elim (λ same-root. rx ∙ same-root ∙ sym ry)
           (λ ne.
-          let apart = decided-other (known_same k x y) (known-other k x y) (ne_eqb (root k.stands x) (root k.stands y) ne) (total x y lx ly) in
-          absurd (other-known k x y hx hy n agrees apart e))
+          let apart = decided_other (known_same k x y) (known_other k x y) (ne_eqb (root k.stands x) (root k.stands y) ne) (total x y lx ly) in
+          absurd (other_known k x y hx hy n agrees apart e))
           (cases_eq (root k.stands x) (root k.stands y))),
     )
 
 module _ (m : ℕ) (c d : Claim) (small : m ≤ 64) (d-pures : All (PureBelow 64) d.pures) where
   module _ (os ws : List Atom) where
-    drawn-holds : (k : Known) (r : Option Known) → Propagated c.atoms k r → HoldsFor c d r os ws → HoldsFor c d (Some k) os ws
-    drawn-holds k None p h n mem s g says = absurd (p n mem s says.atoms g)
-    drawn-holds k (Some j) p h n mem s g says = h n mem s (p.forth n mem s says.atoms g) says
+    drawn_holds : (k : Known) (r : Option Known) → Propagated c.atoms k r → HoldsFor c d r os ws → HoldsFor c d (Some k) os ws
+    drawn_holds k None p h n mem s g says = absurd (p n mem s says.atoms g)
+    drawn_holds k (Some j) p h n mem s g says = h n mem s (p.forth n mem s says.atoms g) says
 
-    joined-holds :
+    joined_holds :
         (k : Known) (r : Option Known) (x y : ℕ) → Joined k x y r → HoldsFor c d r os ws → (n : Names) (mem : Memory) → T (sound mem) →
         Agrees k n → at n x ≡ at n y → Says n mem c → Met d os ws n mem
-    joined-holds k None x y j h n mem s g e says = absurd (j n g e)
-    joined-holds k (Some i) x y j h n mem s g e says = h n mem s ((j n).1 (g, e)) says
+    joined_holds k None x y j h n mem s g e says = absurd (j n g e)
+    joined_holds k (Some i) x y j h n mem s g e says = h n mem s ((j n).1 (g, e)) says
 
-    parted-holds :
+    parted_holds :
         (k : Known) (r : Option Known) (x y : ℕ) → Parted k x y r → HoldsFor c d r os ws → (n : Names) (mem : Memory) → T (sound mem) →
         Agrees k n → (at n x ≡ at n y → ⊥) → Says n mem c → Met d os ws n mem
-    parted-holds k None x y j h n mem s g e says = absurd (j n g e)
-    parted-holds k (Some i) x y j h n mem s g e says = h n mem s ((j n).1 (g, e)) says
+    parted_holds k None x y j h n mem s g e says = absurd (j n g e)
+    parted_holds k (Some i) x y j h n mem s g e says = h n mem s ((j n).1 (g, e)) says
 
     cases_hold :
         (k : Known) (r t : Option Known) (x y : ℕ) → Joined k x y r → Parted k x y t → HoldsFor c d r os ws → HoldsFor c d t os ws →
         HoldsFor c d (Some k) os ws
     cases_hold k r t x y joined parted one two n mem s g says =
-        ⊎_elim (λ e. joined-holds k r x y joined one n mem s g e says) (λ e. parted-holds k t x y parted two n mem s g e says)
+        ⊎_elim (λ e. joined_holds k r x y joined one n mem s g e says) (λ e. parted_holds k t x y parted two n mem s g e says)
         (cases_eq (at n x) (at n y))
 
-  renamed-holds :
+  renamed_holds :
       (k : Known) (os ps ws vs : List Atom) → Lives k os ps → Lives k ws vs → HoldsFor c d (Some k) ps vs → HoldsFor c d (Some k) os ws
-  renamed-holds k os ps ws vs own wanted h n mem s g says = go (h n mem s g says)
+  renamed_holds k os ps ws vs own wanted h n mem s g says = go (h n mem s g says)
     where
       go : Met d ps vs n mem → Met d os ws n mem
       go (inl all) = inl all
       go (inr met) = inr (met.0, λ p e t o. (wanted n g p).1 (met.1 p e t ((own n g p).0 o)))
 
-  taken-holds :
+  taken_holds :
       (k : Known) (ls os qs ws vs : List Atom) (w : Atom) → Lives k c.atoms ls → Put w vs ws → Made k ls w os qs →
       HoldsFor c d (Some k) qs vs → HoldsFor c d (Some k) os ws
-  taken-holds k ls os qs ws vs w lives put made h n mem s g says = go (h n mem s g says)
+  taken_holds k ls os qs ws vs w lives put made h n mem s g says = go (h n mem s g says)
     where
       step : ((p e : Memory) → Parts p e mem → Dealt n qs p → Dealt n vs p) → (p e : Memory) → Parts p e mem → Dealt n os p → Dealt n ws p
       step f p e t o =
@@ -167,10 +167,10 @@ module _ (m : ℕ) (c d : Claim) (small : m ≤ 64) (d-pures : All (PureBelow 64
           ((p e : Memory) → Parts p e mem → Dealt n ps p → Dealt n us p) → ((p e : Memory) → Parts p e mem → Dealt n qs p → Dealt n vs p) →
           (p e : Memory) → Parts p e mem → Dealt n os p → Dealt n ws p
       step f h p e t o =
-          let (a, b, u, da, db) = parts-dealt own o in
+          let (a, b, u, da, db) = parts_dealt own o in
           let (_, ua, _) = parts_assoc t u in
           let (_, ub, _) = parts_assoc t (parts_comm u) in
-          dealt-parts wanted u (f a _ ua da) (h b _ ub db)
+          dealt_parts wanted u (f a _ ua da) (h b _ ub db)
 
       go : Met d ps us n mem → Met d qs vs n mem → Met d os ws n mem
       go (inl all) _ = inl all
@@ -180,24 +180,24 @@ module _ (m : ℕ) (c d : Claim) (small : m ≤ 64) (d-pures : All (PureBelow 64
   nothing_holds : (k : Known) → All (PureKnown k) d.pures → HoldsFor c d (Some k) [] []
   nothing_holds k pures n mem s g says = inr (pures_hold k n g d.pures d-pures pures, λ p e t o. o)
 
-  pattern-holds :
+  pattern_holds :
       (k : Known) (g : Names) (os ws : List Atom) → Total m k → StandsAt m k g → FollowsLike m g c d → HoldsFor c d (Some k) os ws
-  pattern-holds k g os ws total stands follows n mem s agrees says =
+  pattern_holds k g os ws total stands follows n mem s agrees says =
       inl (follows n mem (total_like m k g n small total stands agrees) s says)
 
   pub closed_holds : {r : Option Known} {os ws : List Atom} → Closed m c d r os ws → HoldsFor c d r os ws
   closed_holds no_names = tt
-  closed_holds (drawn {k = k} {r = r} {os = os} {ws = ws} p more) = drawn-holds os ws k r p (closed_holds more)
+  closed_holds (drawn {k = k} {r = r} {os = os} {ws = ws} p more) = drawn_holds os ws k r p (closed_holds more)
   closed_holds (cases {k = k} {r = r} {s = t} {os = os} {ws = ws} x y joined parted one two) =
       cases_hold os ws k r t x y joined parted (closed_holds one) (closed_holds two)
   closed_holds (renamed {k = k} {os = os} {ps = ps} {ws = ws} {vs = vs} own wanted more) =
-      renamed-holds k os ps ws vs own wanted (closed_holds more)
+      renamed_holds k os ps ws vs own wanted (closed_holds more)
   closed_holds (taken {k = k} {ls = ls} {os = os} {qs = qs} {ws = ws} {vs = vs} {w = w} lives put made more) =
-      taken-holds k ls os qs ws vs w lives put made (closed_holds more)
+      taken_holds k ls os qs ws vs w lives put made (closed_holds more)
   closed_holds (in_parts {k = k} {os = os} {ps = ps} {qs = qs} {ws = ws} {us = us} {vs = vs} own wanted one two) =
       parts_hold k os ps qs ws us vs own wanted (closed_holds one) (closed_holds two)
   closed_holds (nothing_left {k = k} pures) = nothing_holds k pures
-  closed_holds (pattern {k = k} {g = g} {os = os} {ws = ws} total stands follows) = pattern-holds k g os ws total stands follows
+  closed_holds (pattern {k = k} {g = g} {os = os} {ws = ws} total stands follows) = pattern_holds k g os ws total stands follows
 
   -- of all atoms of both claims
   pub all_settled :

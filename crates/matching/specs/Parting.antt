@@ -62,8 +62,8 @@ pub record Only (p : Part) (o rest w : Live) (r : Part) : Type 0 where
 pub record Cut (p a b : Part) : Type 0 where
   pub own : Parts (own_of a) (own_of b) (own_of p)
   pub wanted : Parts (wanted_of a) (wanted_of b) (wanted_of p)
-  pub first-whole : Regrouped (whole_of p) (whole_of a)
-  pub second-whole : Regrouped (whole_of p) (whole_of b)
+  pub first_whole : Regrouped (whole_of p) (whole_of a)
+  pub second_whole : Regrouped (whole_of p) (whole_of b)
   pub first_smaller : size a < size p
   pub second_smaller : size b < size p
 

@@ -8,7 +8,7 @@ use Rattle.memory.specs.Owners.{start, end}
 use Rattle.memory.specs.Taking.{Put}
 use Rattle.models.specs.Follows.{FollowsLike}
 use Rattle.linked.specs.Stands.{root}
-use Rattle.linked.specs.Knowing.{Agrees, known_same, known-other, undecided, Joined, Parted}
+use Rattle.linked.specs.Knowing.{Agrees, known_same, known_other, undecided, Joined, Parted}
 use Rattle.linked.specs.Living.{Lives}
 use Rattle.linked.specs.Reaching.{Barred}
 use Rattle.linked.specs.Propagating.{Propagated}
@@ -17,7 +17,7 @@ use Rattle.linked.specs.declared.known.Known.{Known}
 -- the same or other is known
 abbrev pub PureKnown : Known → Pure → Type 0
 PureKnown k (same x y) = known_same k x y ≡ true
-PureKnown k (other x y) = known-other k x y ≡ true
+PureKnown k (other x y) = known_other k x y ≡ true
 
 -- A row from s to t is made of atoms among rs, each once, and leaves the others, qs. They stand one behind the other, and the
 -- place of t is never one of their cells: else the row would have to stop there. All of the claim's atoms are ls.

@@ -1,6 +1,6 @@
 -- Names that are alike below k mean the same to what speaks only of names below k.
 --
--- pure_alike, atom_alike and dealt-alike; says-alike: a claim over k names holds of both or of neither.
+-- pure_alike, atom_alike and dealt_alike; says_alike: a claim over k names holds of both or of neither.
 use Rattle.std.proofs.Common.{◌≡◌, ℕ, ◌<◌, List, [], ◌∷◌, sym, ◌∙◌}
 use Rattle.std.specs.List.{AllByRecursion as All}
 use Rattle.claims.specs.Claims.{Pure, same, other, Atom, cell, row, Claim}
@@ -19,18 +19,18 @@ module _ (k : ℕ) (n n' : Names) (alike : Alike k n n') where
   pure_alike (same x y) b h = sym (alike x b.0) ∙ (h ∙ alike y b.1)
   pure_alike (other x y) b h = λ e. h (alike x b.0 ∙ (e ∙ sym (alike y b.1)))
 
-  pub pures-alike : (fs : List Pure) → All (PureBelow k) fs → All (PureHolds n) fs → All (PureHolds n') fs
-  pures-alike [] b h = tt
-  pures-alike (f ∷ fs) b h = (pure_alike f b.0 h.0, pures-alike fs b.1 h.1)
+  pub pures_alike : (fs : List Pure) → All (PureBelow k) fs → All (PureHolds n) fs → All (PureHolds n') fs
+  pures_alike [] b h = tt
+  pures_alike (f ∷ fs) b h = (pure_alike f b.0 h.0, pures_alike fs b.1 h.1)
 
   pub atom_alike : (x : Atom) (m : Memory) → AtomBelow k x → AtomHolds n x m → AtomHolds n' x m
   atom_alike (cell x y) m b h = rw (← alike x b.0, ← alike y b.1) h
   atom_alike (row x y) m b h = rw (← alike x b.0, ← alike y b.1) h
 
-  pub dealt-alike : {cs : List Atom} {m : Memory} → All (AtomBelow k) cs → Dealt n cs m → Dealt n' cs m
-  dealt-alike b no_more = no_more
-  dealt-alike b (one_more {a = x} {part = part} t h d) = one_more t (atom_alike x part b.0 h) (dealt-alike b.1 d)
+  pub dealt_alike : {cs : List Atom} {m : Memory} → All (AtomBelow k) cs → Dealt n cs m → Dealt n' cs m
+  dealt_alike b no_more = no_more
+  dealt_alike b (one_more {a = x} {part = part} t h d) = one_more t (atom_alike x part b.0 h) (dealt_alike b.1 d)
 
-  pub says-alike : {c : Claim} {m : Memory} → Fits k c → Says n m c → Says n' m c
-  says-alike {c} fits h =
-      record { pures = pures-alike c.pures fits.pures-below h.pures; atoms = dealt-alike fits.atoms-below h.atoms }
+  pub says_alike : {c : Claim} {m : Memory} → Fits k c → Says n m c → Says n' m c
+  says_alike {c} fits h =
+      record { pures = pures_alike c.pures fits.pures_below h.pures; atoms = dealt_alike fits.atoms_below h.atoms }

@@ -14,11 +14,11 @@ use Rattle.claims.specs.declared.names.Place.{Place}
 use Rattle.memory.specs.Marks.{memory_of, rest_of}
 use Rattle.memory.specs.Taking.{Takes}
 use Rattle.memory.specs.Walks.{AtomStuck}
-use Rattle.memory.specs.Judging.{FirstFalse, AtomsStuck, AtomsLeave, Deals, FailsFor, claim-from}
+use Rattle.memory.specs.Judging.{FirstFalse, AtomsStuck, AtomsLeave, Deals, FailsFor, claim_from}
 use Rattle.memory.specs.declared.deals.Why.TheVariants as why
 use Rattle.memory.proofs.Parts.{parts_comm, parts_none}
-use Rattle.memory.proofs.Marking.{length-memory, mark_out, none-unmarked}
-use Rattle.memory.proofs.Dealing.{deals_more, deals_stuck, false_fails, stuck-fails, left-fails}
+use Rattle.memory.proofs.Marking.{length_memory, mark_out, none-unmarked}
+use Rattle.memory.proofs.Dealing.{deals_more, deals_stuck, false_fails, stuck_fails, left_fails}
 
 -- what the checker reads past the end of an array
 abbrev pub no_pure : Pure
@@ -59,22 +59,22 @@ module _ (n : Names) (m : Memory) (xs : List Atom) (i : ℕ) (e : Memory) (befor
   atom_stuck b within s =
       deals_stuck n m (map atom_of xs) i (atom_of (get_or xs i no_atom)) e (omega (arith, length-map xs atom_of)) (λ d. get_or-map atom_of xs i no_atom d within) before b s
 
-  pub atoms-taken : i ≡ length xs → Deals n m (map atom_of xs) (length (map atom_of xs)) e
-  atoms-taken h =
+  pub atoms_taken : i ≡ length xs → Deals n m (map atom_of xs) (length (map atom_of xs)) e
+  atoms_taken h =
       let same : i ≡ length (map atom_of xs) = h ∙ sym (length-map xs atom_of) in
       subst (λ k. Deals n m (map atom_of xs) k e) same before
 
-module _ (n : Names) (s : List ℕ) (ps : List Pure) (xs : List Atom) (is-sound : T (sound (memory_of s))) where
-  pub fails_pure : (i : ℕ) → FirstFalse n (map pure_of ps) i → FailsFor n (memory_of s) (claim-from ps xs) (why.Pure i)
+module _ (n : Names) (s : List ℕ) (ps : List Pure) (xs : List Atom) (is_sound : T (sound (memory_of s))) where
+  pub fails_pure : (i : ℕ) → FirstFalse n (map pure_of ps) i → FailsFor n (memory_of s) (claim_from ps xs) (why.Pure i)
   fails_pure i f = record { fails = λ h. false_fails n (map pure_of ps) i f h.pures; why_true = f }
 
   module _ (true-pures : All (PureHolds n) (map pure_of ps)) where
-    pub fails-stuck :
+    pub fails_stuck :
         (i : ℕ) (b : Place) → AtomsStuck n (memory_of s) (map atom_of xs) i b.0 →
-        FailsFor n (memory_of s) (claim-from ps xs) (why.Stuck i b)
-    fails-stuck i b k =
+        FailsFor n (memory_of s) (claim_from ps xs) (why.Stuck i b)
+    fails_stuck i b k =
         record {
-          fails = λ h. stuck-fails n (memory_of s) (map atom_of xs) i b.0 is-sound k h.atoms;
+          fails = λ h. stuck_fails n (memory_of s) (map atom_of xs) i b.0 is_sound k h.atoms;
           why_true = (true-pures, k);
         }
 
@@ -82,9 +82,9 @@ module _ (n : Names) (s : List ℕ) (ps : List Pure) (xs : List Atom) (is-sound 
       all_dealt : Dealt n (map atom_of xs) d.used
       all_dealt = rw (take_all (length (map atom_of xs)) (map atom_of xs) (omega arith)) at d.dealt
 
-      pub fails-left : (j : ℕ) → j < length w → get_or w j 0 ≡ 0 → FailsFor n (memory_of s) (claim-from ps xs) (why.LeftOver j)
-      fails-left j h unmarked =
-          let within : j < length (memory_of s) = omega (arith, length-memory s) in
+      pub fails_left : (j : ℕ) → j < length w → get_or w j 0 ≡ 0 → FailsFor n (memory_of s) (claim_from ps xs) (why.LeftOver j)
+      fails_left j h unmarked =
+          let within : j < length (memory_of s) = omega (arith, length_memory s) in
           let left : AtomsLeave n (memory_of s) (map atom_of xs) j =
           record {
             within = within;
@@ -96,12 +96,12 @@ module _ (n : Names) (s : List ℕ) (ps : List Pure) (xs : List Atom) (is-sound 
             there = λ c. mark_out w (memory_of s) j c within h unmarked;
           } in
           record {
-            fails = λ h. left-fails n (memory_of s) (map atom_of xs) j is-sound left h.atoms;
+            fails = λ h. left_fails n (memory_of s) (map atom_of xs) j is_sound left h.atoms;
             why_true = (true-pures, left);
           }
 
-      pub says_so : ((k : ℕ) → k < length w → get_or w k 0 ≡ 0 → ⊥) → Says n (memory_of s) (claim-from ps xs)
+      pub says_so : ((k : ℕ) → k < length w → get_or w k 0 ≡ 0 → ⊥) → Says n (memory_of s) (claim_from ps xs)
       says_so h =
-          let nothing = none-unmarked w (memory_of s) (room ∙ sym (length-memory s)) h in
+          let nothing = none-unmarked w (memory_of s) (room ∙ sym (length_memory s)) h in
           let whole : d.used ≡ memory_of s = parts_none (parts_comm (subst (λ e. Parts d.used e (memory_of s)) nothing d.parts)) in
           record { pures = true-pures; atoms = subst (λ u. Dealt n (map atom_of xs) u) whole all_dealt }

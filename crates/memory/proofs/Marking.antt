@@ -1,47 +1,47 @@
 -- Memories as words, and cells that are marked.
 --
--- length-memory, memory-at: how many cells words are, and which; memory_words_of and words-memory: words and memories tell each other.
--- sound-rest: what is left of a sound memory is sound.
+-- length_memory, memory_at: how many cells words are, and which; memory_words_of and words_memory: words and memories tell each other.
+-- sound_rest: what is left of a sound memory is sound.
 -- mark_out: marking a cell takes it out of the unmarked ones; unmarked_clear: with no marks all cells are left.
 -- absent_unmarked, none-unmarked: what is left has no cell at a place, or none at all.
 -- found_some and found_none: what a search for the cell at a place finds.
 use Rattle.std.proofs.Common.{◌≡◌, ℕ, zero, suc, ◌+◌, ◌*◌, ◌/◌, ◌%◌, ◌<◌, false, T, eqb, List, [], ◌∷◌, length, get_or, set, Some, sym, refl, ap, ◌∙◌, arith}
 use Rattle.std.proofs.lemmas.Bool.{or_from, ne_eqb}
 use Rattle.claims.specs.Memory.{Cell, Memory, here, sound, Parts, none_p, left_p, right_p}
-use Rattle.memory.specs.Marks.{memory-words, memory_of, unmarked, rest_of}
+use Rattle.memory.specs.Marks.{memory_words, memory_of, unmarked, rest_of}
 use Rattle.memory.specs.Walks.{Found}
-use Rattle.memory.proofs.Parts.{none-parts, sound_right}
+use Rattle.memory.proofs.Parts.{none_parts, sound_right}
 
-pub length-memory : (s : List ℕ) → length (memory_of s) ≡ length s / 2
-length-memory [] = refl
-length-memory (p ∷ []) = refl
-length-memory (p ∷ q ∷ s) = omega (arith, length-memory s)
+pub length_memory : (s : List ℕ) → length (memory_of s) ≡ length s / 2
+length_memory [] = refl
+length_memory (p ∷ []) = refl
+length_memory (p ∷ q ∷ s) = omega (arith, length_memory s)
 
 -- no cell, where a default is asked for
 pub nowhere : Cell ℕ
 nowhere = record { place = 0; holds = 0 }
 
-pub memory-at :
+pub memory_at :
     (s : List ℕ) (i : ℕ) (d : Cell ℕ) → i < length s / 2 →
     get_or (memory_of s) i d ≡ record { place = get_or s (2 * i) 0; holds = get_or s (2 * i + 1) 0 }
-memory-at [] i d h = absurd (omega arith)
-memory-at (p ∷ []) i d h = absurd (omega arith)
-memory-at (p ∷ q ∷ s) zero d h = refl
-memory-at (p ∷ q ∷ s) (suc i) d h =
+memory_at [] i d h = absurd (omega arith)
+memory_at (p ∷ []) i d h = absurd (omega arith)
+memory_at (p ∷ q ∷ s) zero d h = refl
+memory_at (p ∷ q ∷ s) (suc i) d h =
     let first : 2 * suc i ≡ suc (suc (2 * i)) = omega arith in
     let second : 2 * suc i + 1 ≡ suc (suc (2 * i + 1)) = omega arith in
-    rw (second, first) (memory-at s i d (omega arith))
+    rw (second, first) (memory_at s i d (omega arith))
 
-pub memory_words_of : (m : Memory) → memory_of (memory-words m) ≡ m
+pub memory_words_of : (m : Memory) → memory_of (memory_words m) ≡ m
 memory_words_of [] = refl
 memory_words_of (c ∷ m) = ap (λ l. c ∷ l) (memory_words_of m)
 
-pub words-memory : (s : List ℕ) → length s % 2 ≡ 0 → memory-words (memory_of s) ≡ s
-words-memory [] h = refl
-words-memory (p ∷ []) h = absurd (omega arith)
-words-memory (p ∷ q ∷ s) h = ap (λ l. p ∷ q ∷ l) (words-memory s (omega arith))
+pub words_memory : (s : List ℕ) → length s % 2 ≡ 0 → memory_words (memory_of s) ≡ s
+words_memory [] h = refl
+words_memory (p ∷ []) h = absurd (omega arith)
+words_memory (p ∷ q ∷ s) h = ap (λ l. p ∷ q ∷ l) (words_memory s (omega arith))
 
-pub length-words : (m : Memory) → length (memory-words m) ≡ 2 * length m
+pub length-words : (m : Memory) → length (memory_words m) ≡ 2 * length m
 length-words [] = refl
 length-words (c ∷ m) = omega (arith, length-words m)
 
@@ -50,21 +50,21 @@ pub mark_out :
     Parts (get_or m i d ∷ []) (unmarked (set w i 1) m) (unmarked w m)
 mark_out [] m i d h k e = absurd (omega arith)
 mark_out (x ∷ w) [] i d h k e = absurd (omega arith)
-mark_out (zero ∷ w) (c ∷ m) zero d h k e = left_p (none-parts (unmarked w m))
+mark_out (zero ∷ w) (c ∷ m) zero d h k e = left_p (none_parts (unmarked w m))
 mark_out (suc x ∷ w) (c ∷ m) zero d h k e = absurd (omega arith)
 mark_out (zero ∷ w) (c ∷ m) (suc i) d h k e = right_p (mark_out w m i d (omega arith) (omega arith) e)
 mark_out (suc x ∷ w) (c ∷ m) (suc i) d h k e = mark_out w m i d (omega arith) (omega arith) e
 
 -- what is left is a part of the memory, and so as sound
-pub unmarked-part : (w : List ℕ) (m : Memory) → (used : Memory) × Parts used (unmarked w m) m
-unmarked-part [] m = ([], none-parts m)
-unmarked-part (zero ∷ w) [] = ([], none_p)
-unmarked-part (suc x ∷ w) [] = ([], none_p)
-unmarked-part (zero ∷ w) (c ∷ m) = let (used, t) = unmarked-part w m in (used, right_p t)
-unmarked-part (suc x ∷ w) (c ∷ m) = let (used, t) = unmarked-part w m in (c ∷ used, left_p t)
+pub unmarked_part : (w : List ℕ) (m : Memory) → (used : Memory) × Parts used (unmarked w m) m
+unmarked_part [] m = ([], none_parts m)
+unmarked_part (zero ∷ w) [] = ([], none_p)
+unmarked_part (suc x ∷ w) [] = ([], none_p)
+unmarked_part (zero ∷ w) (c ∷ m) = let (used, t) = unmarked_part w m in (used, right_p t)
+unmarked_part (suc x ∷ w) (c ∷ m) = let (used, t) = unmarked_part w m in (c ∷ used, left_p t)
 
-pub sound-rest : (s w : List ℕ) → T (sound (memory_of s)) → T (sound (rest_of s w))
-sound-rest s w h = sound_right (unmarked-part w (memory_of s)).1 h
+pub sound_rest : (s w : List ℕ) → T (sound (memory_of s)) → T (sound (rest_of s w))
+sound_rest s w h = sound_right (unmarked_part w (memory_of s)).1 h
 
 pub unmarked_clear : {A : Type 0} (w : List ℕ) (m : List A) → ((i : ℕ) → i < length w → get_or w i 0 ≡ 0) → unmarked w m ≡ m
 unmarked_clear [] m h = refl
@@ -97,12 +97,12 @@ absent_unmarked (suc x ∷ w) (c ∷ m) p d e h = absent_unmarked w m p d (omega
 module _ (s w : List ℕ) (p : ℕ) (room : length w ≡ length s / 2) where
   pub found_some : (i : ℕ) → i < length w → get_or w i 0 ≡ 0 → get_or s (2 * i) 0 ≡ p → Found s w p (Some i)
   found_some i h e at_p =
-      let cell-is = memory-at s i nowhere (omega arith) in
-      let out = mark_out w (memory_of s) i nowhere (omega (arith, length-memory s)) h e in
+      let cell-is = memory_at s i nowhere (omega arith) in
+      let out = mark_out w (memory_of s) i nowhere (omega (arith, length_memory s)) h e in
       (h, rw (← at_p, ← cell-is) out)
 
   pub found_none :
       ((i : ℕ) → i < length w → get_or w i 0 ≡ 0 → get_or s (2 * i) 0 ≡ p → ⊥) → here p (rest_of s w) ≡ false
   found_none h =
-      absent_unmarked w (memory_of s) p nowhere (omega (arith, length-memory s))
-      (λ i l e at_p. h i l e (sym (ap (λ c. c.place) (memory-at s i nowhere (omega arith))) ∙ at_p))
+      absent_unmarked w (memory_of s) p nowhere (omega (arith, length_memory s))
+      (λ i l e at_p. h i l e (sym (ap (λ c. c.place) (memory_at s i nowhere (omega arith))) ∙ at_p))

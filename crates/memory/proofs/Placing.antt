@@ -20,8 +20,8 @@ module _ (s : List ℕ) (i : ℕ) where
       drop_more s (2 * i + 1) 0 (omega arith) ∙ ap (λ k. get_or s (2 * i + 1) 0 ∷ drop k s) next in
       drop_more s (2 * i) 0 (omega arith) ∙ ap (λ l. get_or s (2 * i) 0 ∷ l) others
 
-  no_more-cells : length s / 2 ≡ i → memory_of (drop (2 * i) s) ≡ []
-  no_more-cells h = short (drop (2 * i) s) (omega (arith, length-drop (2 * i) s))
+  no_more_cells : length s / 2 ≡ i → memory_of (drop (2 * i) s) ≡ []
+  no_more_cells h = short (drop (2 * i) s) (omega (arith, length-drop (2 * i) s))
 
   module _ (p : ℕ) (before : here p (memory_of s) ≡ here p (memory_of (drop (2 * i) s))) where
     here_next : i < length s / 2 → here p (memory_of s) ≡ (eqb (get_or s (2 * i) 0) p || here p (memory_of (drop (2 * (i + 1)) s)))
@@ -36,12 +36,12 @@ module _ (s : List ℕ) (i : ℕ) where
     here_more h ne =
         here_next h ∙ ap (λ b. b || here p (memory_of (drop (2 * (i + 1)) s))) (ne_eqb (get_or s (2 * i) 0) p ne)
 
-    pub here-none : length s / 2 ≡ i → false ≡ here p (memory_of s)
-    here-none h = sym (before ∙ ap (here p) (no_more-cells h))
+    pub here_none : length s / 2 ≡ i → false ≡ here p (memory_of s)
+    here_none h = sym (before ∙ ap (here p) (no_more_cells h))
 
   module _ (before : sound (memory_of s) ≡ sound (memory_of (drop (2 * i) s))) where
     pub sound_none : length s / 2 ≡ i → true ≡ sound (memory_of s)
-    sound_none h = sym (before ∙ ap sound (no_more-cells h))
+    sound_none h = sym (before ∙ ap sound (no_more_cells h))
 
     module _ (inside : i < length s / 2) where
       -- r is whether there is another cell at the place; the checker reads `&s[2 * (i + 1)..]`

@@ -1,7 +1,7 @@
 -- Rows of cells.
 --
--- row-end, row-nowhere: a row has no cell at its end, and none nowhere.
--- row_same, row_first, row-start: a row from a place to itself has no cells, any other has its first at its start.
+-- row_end, row_nowhere: a row has no cell at its end, and none nowhere.
+-- row_same, row_first, row_start: a row from a place to itself has no cells, any other has its first at its start.
 -- row_join: rows join, if the first has no cell at the end of the second.
 -- rows_same: two rows from p to q in one sound memory are the same cells.
 -- takes_row_none, takes_row_cell and takes_row_row: what is left when a row is taken out of a memory,
@@ -10,15 +10,15 @@ use Rattle.std.proofs.Common.{◌≡◌, ℕ, true, false, T, ◌↔◌, [], ◌
 use Rattle.std.proofs.lemmas.Bool.{both_ways}
 use Rattle.claims.specs.Memory.{Memory, here, sound, Parts, IsRow, no_cells, some_cells}
 use Rattle.memory.specs.Taking.{Takes}
-use Rattle.memory.proofs.Parts.{parts_comm, parts_assoc, parts_regroup, parts_none, none-parts, sound_right, rest-same, one_out, here_out, absent_out, out_absent, sound-nowhere}
+use Rattle.memory.proofs.Parts.{parts_comm, parts_assoc, parts_regroup, parts_none, none_parts, sound_right, rest_same, one_out, here_out, absent_out, out_absent, sound_nowhere}
 
-pub row-end : {p q : ℕ} {m : Memory} → IsRow p q m → here q m ≡ false
-row-end (no_cells e) = refl
-row-end (some_cells {q = q} ne nz t w) = absent_out t q ne (row-end w)
+pub row_end : {p q : ℕ} {m : Memory} → IsRow p q m → here q m ≡ false
+row_end (no_cells e) = refl
+row_end (some_cells {q = q} ne nz t w) = absent_out t q ne (row_end w)
 
-pub row-nowhere : {p q : ℕ} {m : Memory} → IsRow p q m → here 0 m ≡ false
-row-nowhere (no_cells e) = refl
-row-nowhere (some_cells ne nz t w) = absent_out t 0 nz (row-nowhere w)
+pub row_nowhere : {p q : ℕ} {m : Memory} → IsRow p q m → here 0 m ≡ false
+row_nowhere (no_cells e) = refl
+row_nowhere (some_cells ne nz t w) = absent_out t 0 nz (row_nowhere w)
 
 pub row_same : {p q : ℕ} {m : Memory} → IsRow p q m → p ≡ q → m ≡ []
 row_same (no_cells e) h = refl
@@ -36,8 +36,8 @@ pub row_first : {p q : ℕ} {m : Memory} → IsRow p q m → (p ≡ q → ⊥) �
 row_first (no_cells e) ne = absurd (ne e)
 row_first (some_cells {r = r} {b = b} _ nz t w) ne = record { next = r; others = b; somewhere = nz; out = t; row = w }
 
-pub row-start : {p q : ℕ} {m : Memory} → IsRow p q m → (p ≡ q → ⊥) → here p m ≡ true
-row-start w ne = here_out (row_first w ne).out
+pub row_start : {p q : ℕ} {m : Memory} → IsRow p q m → (p ≡ q → ⊥) → here p m ≡ true
+row_start w ne = here_out (row_first w ne).out
 
 pub row_join :
     {p q r : ℕ} {m a b : Memory} → Parts a b m → IsRow p q a → IsRow q r b → here r a ≡ false → IsRow p r m
@@ -51,7 +51,7 @@ row_join {r = r} t (some_cells ne nz u w) v h =
 pub takes_row_none : {p q : ℕ} {m e : Memory} → p ≡ q → Takes (IsRow p q) m e ↔ (e ≡ m)
 takes_row_none {m = m} same = (
   (λ t. parts_none (rw (row_same t.is same) at t.parts)),
-  λ same_memory. record { part = []; parts = rw same_memory (none-parts m); is = no_cells same },
+  λ same_memory. record { part = []; parts = rw same_memory (none_parts m); is = no_cells same },
 )
 
 -- A row that starts at a cell takes this cell and a row from where it leads.
@@ -70,7 +70,7 @@ takes_row_cell {p} {q} {m = m} out s ne = (
       }),
   λ t.
       let (g, g1, g2) = parts_regroup out t.parts in
-      let somewhere : p ≡ 0 → ⊥ = λ z. both_ways (here p m) (rw z (sound-nowhere m s)) (here_out out) in
+      let somewhere : p ≡ 0 → ⊥ = λ z. both_ways (here p m) (rw z (sound_nowhere m s)) (here_out out) in
       record { part = g; parts = g2; is = some_cells ne somewhere g1 t.is },
 )
 
@@ -96,5 +96,5 @@ takes_row_row {q = q} {b = b} {e = e} t s w h = (
 pub rows_same :
     {p q : ℕ} {m a b e f : Memory} → Parts a e m → Parts b f m → T (sound m) → IsRow p q a → IsRow p q b → a ≡ b
 rows_same t u s v w =
-    let rest = (takes_row_row t s v (row-end v)).0 (record { part = _; parts = u; is = w }) in
-    rest-same (parts_comm t) (parts_comm u) s (sym ((takes_row_none refl).0 rest))
+    let rest = (takes_row_row t s v (row_end v)).0 (record { part = _; parts = u; is = w }) in
+    rest_same (parts_comm t) (parts_comm u) s (sym ((takes_row_none refl).0 rest))

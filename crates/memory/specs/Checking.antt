@@ -1,11 +1,11 @@
 -- What the checking call promises.
 use Rattle.std.specs.Prelude.{◌≡◌, ℕ, ◌/◌, ◌<◌, ◌≤◌, T, List, ◌∷◌, length, Some, None, Option}
 use Rattle.claims.specs.Claims.{Claim}
-use Rattle.claims.specs.Words.{claim-words, Fits}
+use Rattle.claims.specs.Words.{claim_words, Fits}
 use Rattle.claims.specs.Memory.{Memory, sound, Says}
 use Rattle.claims.specs.Decoding.{decoded_claim}
 use Rattle.claims.specs.declared.decoding.Decoded.{Decoded}
-use Rattle.memory.specs.Marks.{memory-words}
+use Rattle.memory.specs.Marks.{memory_words}
 use Rattle.memory.specs.Judging.{FailsFor}
 use Rattle.memory.specs.Laws.{Precise, RowsJoin}
 use Rattle.memory.specs.declared.checks.Checked.{Checked}
@@ -14,16 +14,16 @@ use Rattle.memory.specs.declared.checks.Checked.TheVariants.{Holds, Fails, NoCla
 -- the words s are how many names there are, k, and the claim c over them
 pub record IsClaim (s : List ℕ) (k : ℕ) (c : Claim) : Type 0 where
   pub some_names : 1 ≤ k
-  pub few-names : k ≤ 64
-  pub words : s ≡ k ∷ claim-words c
+  pub few_names : k ≤ 64
+  pub words : s ≡ k ∷ claim_words c
   pub fits : Fits k c
 
 -- the words s, n and t ask whether the claim c over k names holds of the memory m, with n for what the names stand for
 pub record Asks (s n t : List ℕ) (k : ℕ) (c : Claim) (m : Memory) : Type 0 where
-  pub claim-is : IsClaim s k c
+  pub claim_is : IsClaim s k c
   pub names_are : length n ≡ k
-  pub memory-is : memory-words m ≡ t
-  pub memory-sound : T (sound m)
+  pub memory_is : memory_words m ≡ t
+  pub memory_sound : T (sound m)
 
 -- words ask at most one thing
 abbrev pub OneAsked : Type 0
@@ -51,7 +51,7 @@ pub record NoMemory (s n t w : List ℕ) : Type 0 where
   pub room : Room t w
   pub names : ℕ
   pub claim : Claim
-  pub claim-is : IsClaim s names claim
+  pub claim_is : IsClaim s names claim
   pub none : (k : ℕ) (c : Claim) (m : Memory) → Asks s n t k c m → ⊥
 
 -- that is what is asked, and P holds of it

@@ -12,8 +12,8 @@ use Rattle.memory.specs.declared.deals.Why.{Why}
 use Rattle.memory.specs.declared.deals.Why.TheVariants.{Pure, Stuck, LeftOver}
 
 -- the claim with these parts
-abbrev pub claim-from : List Pure-value → List Atom-value → claims.Claim
-claim-from ps xs = record { pures = map pure_of ps; atoms = map atom_of xs }
+abbrev pub claim_from : List Pure-value → List Atom-value → claims.Claim
+claim_from ps xs = record { pures = map pure_of ps; atoms = map atom_of xs }
 
 -- the same or other number i is false, and those before it are true
 pub record FirstFalse (n : Names) (fs : List claims.Pure) (i : ℕ) : Type 0 where

@@ -3,9 +3,9 @@ use Rattle.std.specs.Prelude.{ℕ, zero, suc, List, [], ◌∷◌}
 use Rattle.claims.specs.Memory.{Memory}
 
 -- each cell's place and where it leads, one cell after the other
-abbrev pub memory-words : Memory → List ℕ
-memory-words [] = []
-memory-words (c ∷ m) = c.place ∷ c.holds ∷ memory-words m
+abbrev pub memory_words : Memory → List ℕ
+memory_words [] = []
+memory_words (c ∷ m) = c.place ∷ c.holds ∷ memory_words m
 
 -- the memory that words are; a last word that is alone is no cell
 abbrev pub memory_of : List ℕ → Memory

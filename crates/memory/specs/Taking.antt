@@ -10,5 +10,5 @@ pub record Takes {A : Type 0} (P : List A → Type 0) (m e : List A) : Type 0 wh
 
 -- the second list is the first with a put in somewhere
 pub data Put {A : Type 0} (a : A) : List A → List A → Type 0 where
-  put-here : {cs : List A} → Put a cs (a ∷ cs)
-  put-later : {c : A} {cs ds : List A} → Put a cs ds → Put a (c ∷ cs) (c ∷ ds)
+  put_here : {cs : List A} → Put a cs (a ∷ cs)
+  put_later : {c : A} {cs ds : List A} → Put a cs ds → Put a (c ∷ cs) (c ∷ ds)

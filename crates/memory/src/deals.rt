@@ -5,7 +5,7 @@
 ghost use Rattle.std.specs.Prelude.{◌≡◌, ℕ, ◌/◌, ◌<◌, T, map, length, Decides, slice_index};
 ghost use Rattle.claims.specs.Meaning.{pure_of, atom_of};
 ghost use Rattle.claims.specs.Memory.{PureHolds, sound};
-ghost use Rattle.memory.specs.Judging.{FalseFound, DealtOut, Unmarked, Judged, claim-from};
+ghost use Rattle.memory.specs.Judging.{FalseFound, DealtOut, Unmarked, Judged, claim_from};
 ghost use Rattle.memory.specs.Marks.{memory_of, rest_of};
 
 use crate::walks::{at, take};
@@ -93,7 +93,7 @@ pub fn holds(
 ) -> Result<(), Why>
     requires room { length marks.old ≡ length memory.now / 2 }
     requires sound { T (sound (memory_of memory.now)) }
-    ensures { Judged names.now (memory_of memory.now) (claim-from pures.now atoms.now) result }
+    ensures { Judged names.now (memory_of memory.now) (claim_from pures.now atoms.now) result }
 {
     if let Some(i) = first_false(pures, names) {
         return Err(Why::Pure(i));

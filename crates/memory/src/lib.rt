@@ -2,6 +2,8 @@
 //
 // `check` takes everything as words and needs nothing to be right with them. `holds` takes a claim's parts as
 // values and a memory that is known to be sound. The laws of memory that they rest on are in specs and proofs.
+#![tactic(auto)]
+
 pub mod cells;
 pub mod checks;
 pub mod deals;

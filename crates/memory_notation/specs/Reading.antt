@@ -9,7 +9,7 @@ use Rattle.memory_notation.specs.declared.problems.Error.{Error}
 
 -- the words of the claim are those of its parts, over the names that were numbered, and each of these has a place
 pub record WellRead (c : Case) : Type 0 where
-  pub claim-is : IsClaim (vec_items c.claim) c.asked.question.names (claim_of c.asked.question.first)
+  pub claim_is : IsClaim (vec_items c.claim) c.asked.question.names (claim_of c.asked.question.first)
   pub names_are : length (vec_items c.names) ≡ c.asked.question.names
 
 -- each case of a text is one that is well read

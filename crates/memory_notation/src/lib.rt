@@ -3,6 +3,8 @@
 //
 // `Cases` gives the cases of a text one after another, each a claim and a memory. `judge` answers
 // one, and `report` makes an error into lines for people.
+#![tactic(auto)]
+
 pub mod answers;
 pub mod cases;
 pub mod claim_texts;

@@ -7,7 +7,7 @@ use Rattle.claims.specs.Memory.{Names, Memory, sound, Says}
 use Rattle.models.specs.Generic.{generic, stretched, Trial, plain, through}
 use Rattle.models.specs.Follows.{Against, Exact}
 use Rattle.models.proofs.Finite.{then-either, below_either}
-use Rattle.models.proofs.Decidable.{Decided, says-decided}
+use Rattle.models.proofs.Decidable.{Decided, says_decided}
 use Rattle.models.proofs.Tried.{tried}
 
 all_trials :
@@ -30,9 +30,9 @@ trials_either P Q k g cs f =
         below_either (λ t. P (stretched g cs i (suc t))) Q k λ t lt.
         f (stretched g cs i (suc t)) (through i (suc t) li (omega arith) lt)
 
-sound-decided : (b : Bool) → Decided (T b)
-sound-decided true = inl tt
-sound-decided false = inr (λ t. t)
+sound_decided : (b : Bool) → Decided (T b)
+sound_decided true = inl tt
+sound_decided false = inr (λ t. t)
 
 pub exact : Exact
 exact k g c d some_names len below c-fits d-fits =
@@ -46,10 +46,10 @@ exact k g c d some_names len below c-fits d-fits =
         (m : Memory) → Trial k g c.atoms m → (s : T (sound m)) → Decided (Says g m c) → Decided (Says g m d) →
         (T (sound m) → Says g m c → Says g m d) ⊎ Failing
     go m trial s (inl says-c) (inl says-d) = inl (λ _ _. says-d)
-    go m trial s (inl says-c) (inr not-d) = inr (m, trial, record { names = len; sound-m = s; says = says-c; not = not-d })
+    go m trial s (inl says-c) (inr not-d) = inr (m, trial, record { names = len; sound_m = s; says = says-c; not = not-d })
     go m trial s (inr not-c) _ = inl (λ _ h. absurd (not-c h))
 
     check : (m : Memory) → Trial k g c.atoms m → (T (sound m) → Says g m c → Says g m d) ⊎ Failing
     check m trial =
-        let sound-case = λ (s : T (sound m)). go m trial s (says-decided g m c s) (says-decided g m d s) in
-        ⊎_elim sound-case (λ no-s. inl (λ s. absurd (no-s s))) (sound-decided (sound m))
+        let sound-case = λ (s : T (sound m)). go m trial s (says_decided g m c s) (says_decided g m d s) in
+        ⊎_elim sound-case (λ no-s. inl (λ s. absurd (no-s s))) (sound_decided (sound m))

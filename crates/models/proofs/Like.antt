@@ -10,9 +10,9 @@ use Rattle.claims.specs.Memory.{Names, at, PureHolds}
 use Rattle.memory.specs.Owners.{start, end, Empty}
 use Rattle.models.specs.Generic.{Like}
 
-pub start-below : {k : ℕ} (a : Atom) → AtomBelow k a → start a < k
-start-below (cell x y) b = b.0
-start-below (row x y) b = b.0
+pub start_below : {k : ℕ} (a : Atom) → AtomBelow k a → start a < k
+start_below (cell x y) b = b.0
+start_below (row x y) b = b.0
 
 pub end_below : {k : ℕ} (a : Atom) → AtomBelow k a → end a < k
 end_below (cell x y) b = b.1
@@ -24,9 +24,9 @@ getD_all P (x ∷ xs) zero d p h = h.0
 getD_all P (x ∷ xs) (suc i) d p h = getD_all P xs i d p h.1
 
 -- names stand for places below k, if the list has no others
-pub at-below : (k : ℕ) (g : Names) → 1 ≤ k → All (λ p. p < k) g → (x : ℕ) → at g x < k
-at-below k g some_names h zero = some_names
-at-below k g some_names h (suc x) = getD_all (λ p. p < k) g (suc x) 0 some_names h
+pub at_below : (k : ℕ) (g : Names) → 1 ≤ k → All (λ p. p < k) g → (x : ℕ) → at g x < k
+at_below k g some_names h zero = some_names
+at_below k g some_names h (suc x) = getD_all (λ p. p < k) g (suc x) 0 some_names h
 
 pub like_sym : (k : ℕ) (g n : Names) → Like k g n → Like k n g
 like_sym k g n like x y lx ly = let (f, b) = like x y lx ly in (b, f)

@@ -1,6 +1,6 @@
 -- From a match of the second claim's atoms with the first's to all names of the pattern; and what a failed match shows.
 --
--- generic-says: where a claim holds, the generic memory of the pattern is sound, and the claim holds of it.
+-- generic_says: where a claim holds, the generic memory of the pattern is sound, and the claim holds of it.
 -- vacuous: so if it does not hold of that, all follows from it.
 -- matched: it follows, if the second claim holds of the generic memory and matches.
 -- can_have_or_stretches: if an atom cannot have another's part, then that is a row, and stretches through a place
@@ -14,16 +14,16 @@ use Rattle.claims.specs.Memory.{Names, at, Memory, here, sound, AtomHolds, Dealt
 use Rattle.memory.specs.Owners.{start, Empty}
 use Rattle.memory.specs.Taking.{Put}
 use Rattle.memory.proofs.Parts.{parts_comm, parts_disjoint, here_either, not_true_false}
-use Rattle.memory.proofs.Rows.{row-end, row-nowhere}
-use Rattle.memory.proofs.Atoms.{cell-only}
+use Rattle.memory.proofs.Rows.{row_end, row_nowhere}
+use Rattle.memory.proofs.Atoms.{cell_only}
 use Rattle.models.specs.Generic.{link, generic, stretched, Trial, through, Like}
 use Rattle.models.specs.Follows.{FollowsLike}
-use Rattle.models.specs.Matching.{Placed, Matches, CanHave, cell-cell, row-cell, ends_nowhere, same_end, cell-there}
-use Rattle.models.proofs.Parts.{here-only, cell_at}
+use Rattle.models.specs.Matching.{Placed, Matches, CanHave, cell_cell, row_cell, ends_nowhere, same_end, cell_there}
+use Rattle.models.proofs.Parts.{here_only, cell_at}
 use Rattle.models.proofs.Dealing.{dealt_each, all_put}
 use Rattle.models.proofs.Like.{like_sym, like_nowhere, pures_like}
-use Rattle.models.proofs.Generic.{linked-full, generic_out, generic-first, generic_places, generic-sound, generic-dealt}
-use Rattle.models.proofs.Stretched.{Spare, stretched_out, stretched-sound, stretched-dealt, not_inside}
+use Rattle.models.proofs.Generic.{linked_full, generic_out, generic_first, generic_places, generic_sound, generic_dealt}
+use Rattle.models.proofs.Stretched.{Spare, stretched_out, stretched_sound, stretched_dealt, not_inside}
 use Rattle.models.proofs.Decidable.{Decided}
 use Rattle.models.proofs.Walk.{Fit, walk}
 
@@ -31,20 +31,20 @@ module _
     (k : ℕ) (g : Names) (c : Claim) (some_names : 1 ≤ k) (c-fits : Fits k c) (n : Names) (m : Memory) (like : Like k g n)
     (s : T (sound m)) (says : Says n m c)
   where
-    pub generic-says : T (sound (generic g c.atoms)) × Says g (generic g c.atoms) c
-    generic-says =
-        let whole-sound = generic-sound k g n some_names like c-fits.atoms-below s says.atoms in
-        let c-pures = pures_like k n g (like_sym k g n like) c.pures c-fits.pures-below says.pures in
-        (whole-sound, record { pures = c-pures; atoms = generic-dealt g c.atoms whole-sound })
+    pub generic_says : T (sound (generic g c.atoms)) × Says g (generic g c.atoms) c
+    generic_says =
+        let whole-sound = generic_sound k g n some_names like c-fits.atoms_below s says.atoms in
+        let c-pures = pures_like k n g (like_sym k g n like) c.pures c-fits.pures_below says.pures in
+        (whole-sound, record { pures = c-pures; atoms = generic_dealt g c.atoms whole-sound })
 
     -- where another atom has a cell in the generic memory, y has none
     start_outside :
         (y : Atom) (part : Memory) (t : ℕ) → t < k → Placed n c.atoms m y part → (Empty g y → ⊥) →
         (at g (start y) ≡ at g t → ⊥) → here (at g t) (generic g c.atoms) ≡ true → here (at n t) part ≡ false
     start_outside y part t l placed full elsewhere h =
-        let others-Below = (all_put (AtomBelow k) placed.put c-fits.atoms-below).1 in
-        let out = rw (linked-full g y full) at (generic_out g placed.put) in
-        ⊎_elim (λ own. absurd (elsewhere (here-only (at g t) (link g y) own))) (other others-Below) (here_either out (at g t) h)
+        let others-Below = (all_put (AtomBelow k) placed.put c-fits.atoms_below).1 in
+        let out = rw (linked_full g y full) at (generic_out g placed.put) in
+        ⊎_elim (λ own. absurd (elsewhere (here_only (at g t) (link g y) own))) (other others-Below) (here_either out (at g t) h)
       where
         other : All (AtomBelow k) placed.others → here (at g t) (generic g placed.others) ≡ true → here (at n t) part ≡ false
         other below own =
@@ -56,27 +56,27 @@ module _
         {x y : Atom} (ds : List Atom) (a part : Memory) → CanHave g c.atoms x y → Placed g ds (generic g c.atoms) x a →
         Placed n c.atoms m y part → AtomBelow k x → AtomBelow k y → (Empty g y → ⊥) → here (at g (start y)) a ≡ true →
         Fit n x y part
-    can_have_fit ds a part cell-cell p q xb yb full h = tt
-    can_have_fit ds a part (row-cell {t = t} {u = u} {z = z}) p q xb yb full h =
+    can_have_fit ds a part cell_cell p q xb yb full h = tt
+    can_have_fit ds a part (row_cell {t = t} {u = u} {z = z}) p q xb yb full h =
         not_true_false (here (at n t) part) λ j.
-        let same_place = (like u t yb.0 xb.1).1 (cell-only n u z (at n t) part q.holds j) in
-        both_ways (here (at g t) a) (row-end p.holds) (rw same_place at h)
+        let same_place = (like u t yb.0 xb.1).1 (cell_only n u z (at n t) part q.holds j) in
+        both_ways (here (at g t) a) (row_end p.holds) (rw same_place at h)
     can_have_fit ds a part (ends_nowhere {t = t} e) p q xb yb full h =
-        rw ((like_nowhere k g n like some_names t xb.1).0 e) (row-nowhere q.holds)
+        rw ((like_nowhere k g n like some_names t xb.1).0 e) (row_nowhere q.holds)
     can_have_fit ds a part (same_end {t = t} {z = z} e) p q xb yb full h =
-        rw ((like t z xb.1 yb.1).0 e) (row-end q.holds)
-    can_have_fit ds a part (cell-there {t = t} {u = u} {z = z} e) p q xb yb full h =
-        start_outside (row u z) part t xb.1 q full (λ o. both_ways (here (at g t) a) (row-end p.holds) (rw o at h)) e
+        rw ((like t z xb.1 yb.1).0 e) (row_end q.holds)
+    can_have_fit ds a part (cell_there {t = t} {u = u} {z = z} e) p q xb yb full h =
+        start_outside (row u z) part t xb.1 q full (λ o. both_ways (here (at g t) a) (row_end p.holds) (rw o at h)) e
 
 pub matched :
     (k : ℕ) (g : Names) (c d : Claim) → 1 ≤ k → Fits k c → Fits k d → Says g (generic g c.atoms) d → Matches g c d →
     FollowsLike k g c d
 matched k g c d some_names c-fits d-fits d-says matches n m like s says =
-    let d-placed = dealt_each {P = Q} d-says.atoms (λ x a p. (p, (all_put (AtomBelow k) p.put d-fits.atoms-below).0)) in
-    let c-placed = dealt_each {P = R} says.atoms (λ x a p. (p, (all_put (AtomBelow k) p.put c-fits.atoms-below).0)) in
+    let d-placed = dealt_each {P = Q} d-says.atoms (λ x a p. (p, (all_put (AtomBelow k) p.put d-fits.atoms_below).0)) in
+    let c-placed = dealt_each {P = R} says.atoms (λ x a p. (p, (all_put (AtomBelow k) p.put c-fits.atoms_below).0)) in
     record {
-      pures = pures_like k g n like d.pures d-fits.pures-below d-says.pures;
-      atoms = walk k g n like R (λ x a r. (r.0.holds, r.1)) Q d-placed d-fits.atoms-below c.atoms refl c-placed (λ x a q. (q.0.holds, fits x a q));
+      pures = pures_like k g n like d.pures d-fits.pures_below d-says.pures;
+      atoms = walk k g n like R (λ x a r. (r.0.holds, r.1)) Q d-placed d-fits.atoms_below c.atoms refl c-placed (λ x a q. (q.0.holds, fits x a q));
     }
   where
     Q : Atom → Memory → Type 0
@@ -97,7 +97,7 @@ pub vacuous :
     (k : ℕ) (g : Names) (c d : Claim) → 1 ≤ k → Fits k c →
     (T (sound (generic g c.atoms)) → Says g (generic g c.atoms) c → ⊥) → FollowsLike k g c d
 vacuous k g c d some_names c-fits not-c n m like s says =
-    let (whole-sound, c-says) = generic-says k g c some_names c-fits n m like s says in
+    let (whole-sound, c-says) = generic_says k g c some_names c-fits n m like s says in
     absurd (not-c whole-sound c-says)
 
 -- the row y stretches through a place up to k, where x never has a cell
@@ -107,28 +107,28 @@ pub data Stretches (k : ℕ) (g : Names) (cs : List Atom) : Atom → Atom → Ty
       Stretches k g cs x (row u z)
 
 -- the generic memory has no cell where no name is
-pub generic-below :
+pub generic_below :
     (k : ℕ) (g : Names) (cs : List Atom) → ((x : ℕ) → at g x < k) → (p : ℕ) → k ≤ p → here p (generic g cs) ≡ false
-generic-below k g cs below p l = not_true_false (here p (generic g cs)) never
+generic_below k g cs below p l = not_true_false (here p (generic g cs)) never
   where
     never : here p (generic g cs) ≡ true → ⊥
     never h =
-        let first = generic-first g cs (cell_at p (generic g cs) h).out in
-        omega (arith, below (start first.atom), ap (λ c. c.place) first.is-link)
+        let first = generic_first g cs (cell_at p (generic g cs) h).out in
+        omega (arith, below (start first.atom), ap (λ c. c.place) first.is_link)
 
 pub can_have_or_stretches :
     (k : ℕ) (g : Names) (cs : List Atom) → ((x : ℕ) → at g x < k) → (x y : Atom) → CanHave g cs x y ⊎ Stretches k g cs x y
-can_have_or_stretches k g cs below (cell p q) (cell u z) = inl cell-cell
-can_have_or_stretches k g cs below (row p t) (cell u z) = inl row-cell
+can_have_or_stretches k g cs below (cell p q) (cell u z) = inl cell_cell
+can_have_or_stretches k g cs below (row p t) (cell u z) = inl row_cell
 can_have_or_stretches k g cs below (cell p q) (row u z) = inr (stretches k (omega arith) spare outside)
   where
     spare : Spare g cs z k
     spare =
-        let absent = generic-below k g cs below k (omega arith) in
-        record { somewhere = λ e. omega (arith, below z); before-end = λ e. omega (arith, below z); absent = absent }
+        let absent = generic_below k g cs below k (omega arith) in
+        record { somewhere = λ e. omega (arith, below z); before_end = λ e. omega (arith, below z); absent = absent }
 
     outside : (a : Memory) → AtomHolds g (cell p q) a → here k a ≡ false
-    outside a h = not_true_false (here k a) (λ j. omega (arith, below p, cell-only g p q k a h j))
+    outside a h = not_true_false (here k a) (λ j. omega (arith, below p, cell_only g p q k a h j))
 can_have_or_stretches k g cs below (row p t) (row u z) =
     go (cases_eq (at g t) 0) (cases_eq (at g t) (at g z)) (cases_Bool (here (at g t) (generic g cs)))
   where
@@ -138,16 +138,16 @@ can_have_or_stretches k g cs below (row p t) (row u z) =
         CanHave g cs (row p t) (row u z) ⊎ Stretches k g cs (row p t) (row u z)
     go (inl e) _ _ = inl (ends_nowhere e)
     go (inr nz) (inl e) _ = inl (same_end e)
-    go (inr nz) (inr ne) (inl h) = inl (cell-there h)
+    go (inr nz) (inr ne) (inl h) = inl (cell_there h)
     go (inr nz) (inr ne) (inr h) =
-        let spare : Spare g cs z (at g t) = record { somewhere = nz; before-end = ne; absent = h } in
-        inr (stretches (at g t) (omega (arith, below t)) spare (λ a w. row-end w))
+        let spare : Spare g cs z (at g t) = record { somewhere = nz; before_end = ne; absent = h } in
+        inr (stretches (at g t) (omega (arith, below t)) spare (λ a w. row_end w))
 
 -- a trial that is against it
 pub record Unmatched (k : ℕ) (g : Names) (cs ds : List Atom) : Type 0 where
   pub m : Memory
   pub trial : Trial k g cs m
-  pub sound-m : T (sound m)
+  pub sound_m : T (sound m)
   pub says : Dealt g cs m
   pub not : Dealt g ds m → ⊥
 
@@ -160,7 +160,7 @@ unmatched {g = g} {cs = cs} {others = others} s placed put full h (stretches {u 
     record {
       m = stretched g cs i t;
       trial = through i t li (omega (arith, spare.somewhere)) l;
-      sound-m = stretched-sound g cs s u z others put full t spare v;
-      says = stretched-dealt g cs s u z others put full t spare v;
+      sound_m = stretched_sound g cs s u z others put full t spare v;
+      says = stretched_dealt g cs s u z others put full t spare v;
       not = λ d. not_inside g cs s u z others put full t spare placed h v d outside;
     }

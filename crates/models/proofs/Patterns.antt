@@ -51,22 +51,22 @@ lowest_least n v (suc b) y l h =
 pub pattern : Names → ℕ → Names
 pattern n k = map (λ x. lowest n (at n x) k) (range_with_len 0 k)
 
-pub pattern-length : (n : Names) (k : ℕ) → length (pattern n k) ≡ k
+pub pattern_length : (n : Names) (k : ℕ) → length (pattern n k) ≡ k
 unfolding pattern
-pattern-length n k = length-map-range_with_len (λ x. lowest n (at n x) k) 0 k
+pattern_length n k = length-map-range_with_len (λ x. lowest n (at n x) k) 0 k
 
 pattern_get : (n : Names) (k x : ℕ) → x < k → get_or (pattern n k) x 0 ≡ lowest n (at n x) k
 unfolding pattern
 pattern_get n k x l = get_or-map-range_with_len (λ x. lowest n (at n x) k) 0 k x x 0 l (omega arith)
 
-at-pattern : (n : Names) (k x : ℕ) → x < k → at (pattern n k) x ≡ lowest n (at n x) k
-at-pattern n k zero l = omega (arith, (lowest_least n 0 k 0 (omega arith) refl).1)
-at-pattern n k (suc x) l = pattern_get n k (suc x) l
+at_pattern : (n : Names) (k x : ℕ) → x < k → at (pattern n k) x ≡ lowest n (at n x) k
+at_pattern n k zero l = omega (arith, (lowest_least n 0 k 0 (omega arith) refl).1)
+at_pattern n k (suc x) l = pattern_get n k (suc x) l
 
-pub pattern-below : (n : Names) (k : ℕ) → All (λ p. p < k) (pattern n k)
-pattern-below n k =
+pub pattern_below : (n : Names) (k : ℕ) → All (λ p. p < k) (pattern n k)
+pattern_below n k =
     All-from_get_or (λ p. p < k) (pattern n k) 0 λ i l.
-    let within : i < k = omega (arith, pattern-length n k) in
+    let within : i < k = omega (arith, pattern_length n k) in
     rw (pattern_get n k i within) (omega (arith, (lowest_least n (at n i) k i (omega arith) refl).1))
 
 pub pattern_like : (n : Names) (k : ℕ) → Like k (pattern n k) n
@@ -77,8 +77,8 @@ pattern_like n k x y lx ly = (to, from)
 
     to : at (pattern n k) x ≡ at (pattern n k) y → at n x ≡ at n y
     to e =
-        let same-lowest = sym (at-pattern n k x lx) ∙ (e ∙ at-pattern n k y ly) in
+        let same-lowest = sym (at_pattern n k x lx) ∙ (e ∙ at_pattern n k y ly) in
         sym (stands x lx) ∙ (ap (λ z. at n z) same-lowest ∙ stands y ly)
 
     from : at n x ≡ at n y → at (pattern n k) x ≡ at (pattern n k) y
-    from e = at-pattern n k x lx ∙ (ap (λ v. lowest n v k) e ∙ sym (at-pattern n k y ly))
+    from e = at_pattern n k x lx ∙ (ap (λ v. lowest n v k) e ∙ sym (at_pattern n k y ly))

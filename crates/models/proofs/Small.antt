@@ -9,51 +9,51 @@ use Rattle.claims.specs.Claims.{Atom, cell, row, Question}
 use Rattle.claims.specs.Words.{Limits}
 use Rattle.claims.specs.Memory.{Names, at, Memory}
 use Rattle.memory.specs.Owners.{start, end}
-use Rattle.models.specs.Generic.{nonempty, link, linked, generic, linked-through, stretched, Trial, plain, through}
+use Rattle.models.specs.Generic.{nonempty, link, linked, generic, linked_through, stretched, Trial, plain, through}
 use Rattle.models.specs.Follows.{DoesFollow, Against, enough, CellBelow, Shows, SmallShows, OneOfTwo, FollowsLike}
-use Rattle.models.proofs.Like.{at-below}
+use Rattle.models.proofs.Like.{at_below}
 use Rattle.models.proofs.Stretched.{two}
 use Rattle.models.proofs.Finite.{then-either, AllLists, lists_either}
 use Rattle.models.proofs.Exact.{exact}
-use Rattle.models.proofs.Patterns.{pattern, pattern-length, pattern-below, pattern_like}
+use Rattle.models.proofs.Patterns.{pattern, pattern_length, pattern_below, pattern_like}
 
 -- at most j cells, at places below b
 abbrev Few : ℕ → ℕ → Memory → Type 0
 Few b j m = (length m ≤ j) × All (CellBelow b) m
 
-few-append : (b i j : ℕ) (m m' : Memory) → Few b i m → Few b j m' → Few b (i + j) (m ++ m')
-few-append b i j m m' h h' = (omega (arith, length-append m m'), All-append (CellBelow b) m m' h.1 h'.1)
+few_append : (b i j : ℕ) (m m' : Memory) → Few b i m → Few b j m' → Few b (i + j) (m ++ m')
+few_append b i j m m' h h' = (omega (arith, length-append m m'), All-append (CellBelow b) m m' h.1 h'.1)
 
 module _ (b : ℕ) (g : Names) (below : (x : ℕ) → at g x < b) where
-  linked-few : (a : Atom) → Few b 1 (linked g a)
-  linked-few a =
+  linked_few : (a : Atom) → Few b 1 (linked g a)
+  linked_few a =
       let one : Few b 1 (link g a ∷ []) = (omega arith, ((below (start a), below (end a)), tt)) in
       cond_both (nonempty g a) (link g a ∷ []) [] (Few b 1) (λ _. one) (λ _. (omega arith, tt))
 
-  through-few : (t : ℕ) → t < b → (a : Atom) → Few b 2 (linked-through g a t)
-  through-few t l (cell x y) = let h = linked-few (cell x y) in (omega arith, h.1)
-  through-few t l (row x y) =
+  through_few : (t : ℕ) → t < b → (a : Atom) → Few b 2 (linked_through g a t)
+  through_few t l (cell x y) = let h = linked_few (cell x y) in (omega arith, h.1)
+  through_few t l (row x y) =
       let some : Few b 2 (two (at g x) t (at g y)) = (omega arith, ((below x, l), ((l, below y), tt))) in
       cond_both (nonempty g (row x y)) (two (at g x) t (at g y)) [] (Few b 2) (λ _. some) (λ _. (omega arith, tt))
 
-  generic-few : (cs : List Atom) → Few b (length cs) (generic g cs)
-  generic-few [] = (omega arith, tt)
-  generic-few (a ∷ cs) =
-      let h = few-append b 1 (length cs) (linked g a) (generic g cs) (linked-few a) (generic-few cs) in
+  generic_few : (cs : List Atom) → Few b (length cs) (generic g cs)
+  generic_few [] = (omega arith, tt)
+  generic_few (a ∷ cs) =
+      let h = few_append b 1 (length cs) (linked g a) (generic g cs) (linked_few a) (generic_few cs) in
       (omega arith, h.1)
 
-  stretched-few : (cs : List Atom) (i t : ℕ) → t < b → Few b (suc (length cs)) (stretched g cs i t)
-  stretched-few [] i t l = (omega arith, tt)
-  stretched-few (a ∷ cs) zero t l =
-      let h = few-append b 2 (length cs) (linked-through g a t) (generic g cs) (through-few t l a) (generic-few cs) in
+  stretched_few : (cs : List Atom) (i t : ℕ) → t < b → Few b (suc (length cs)) (stretched g cs i t)
+  stretched_few [] i t l = (omega arith, tt)
+  stretched_few (a ∷ cs) zero t l =
+      let h = few_append b 2 (length cs) (linked_through g a t) (generic g cs) (through_few t l a) (generic_few cs) in
       (omega arith, h.1)
-  stretched-few (a ∷ cs) (suc i) t l =
-      let h = few-append b 1 (suc (length cs)) (linked g a) (stretched g cs i t) (linked-few a) (stretched-few cs i t l) in
+  stretched_few (a ∷ cs) (suc i) t l =
+      let h = few_append b 1 (suc (length cs)) (linked g a) (stretched g cs i t) (linked_few a) (stretched_few cs i t l) in
       (omega arith, h.1)
 
   trial_few : {k : ℕ} {cs : List Atom} {m : Memory} → k < b → Trial k g cs m → Few b (enough (length cs)) m
-  trial_few {cs = cs} l plain = let h = generic-few cs in (omega arith, h.1)
-  trial_few {cs = cs} l (through i t li l1 lk) = let h = stretched-few cs i t (omega arith) in (omega arith, h.1)
+  trial_few {cs = cs} l plain = let h = generic_few cs in (omega arith, h.1)
+  trial_few {cs = cs} l (through i t li l1 lk) = let h = stretched_few cs i t (omega arith) in (omega arith, h.1)
 
 module _ (q : Question) (limits : Limits q) where
   -- a trial against it is small
@@ -61,14 +61,14 @@ module _ (q : Question) (limits : Limits q) where
       (g : Names) → All (λ p. p < q.names) g → (m : Memory) → Trial q.names g q.first.atoms m →
       Against q.names q.first q.second g m → Shows q
   trial_shows g below m trial against =
-      let within = λ (x : ℕ). at-below q.names g limits.some_names below x in
+      let within = λ (x : ℕ). at_below q.names g limits.some_names below x in
       let few = trial_few 256 g (λ x. omega (arith, within x)) (omega arith) trial in
-      let names-below = All-weaker (λ p. p < q.names) (λ p. p < 256) (λ p l. omega arith) g below in
+      let names_below = All-weaker (λ p. p < q.names) (λ p. p < 256) (λ p l. omega arith) g below in
       record {
         n = g;
         m = m;
         against = against;
-        small = record { cells = few.0; names-below = names-below; places_below = few.1 };
+        small = record { cells = few.0; names_below = names_below; places_below = few.1 };
       }
 
   -- for the names of one pattern
@@ -81,9 +81,9 @@ pub one_of_two : OneOfTwo
 one_of_two q limits =
     let k = q.names in
     then-either (lists_either (λ g. FollowsLike k g q.first q.second) (Shows q) k k (pattern_of_two q limits)) λ all.
-    inl (λ n m. all (pattern n k) (pattern-length n k) (pattern-below n k) n m (pattern_like n k))
+    inl (λ n m. all (pattern n k) (pattern_length n k) (pattern_below n k) n m (pattern_like n k))
 
 pub small_shows : SmallShows
 small_shows q limits n m against =
-    let never = λ (follows : DoesFollow q.first q.second). against.not (follows n m against.sound-m against.says) in
+    let never = λ (follows : DoesFollow q.first q.second). against.not (follows n m against.sound_m against.says) in
     ⊎_elim (λ follows. absurd (never follows)) (λ shows. shows) (one_of_two q limits)

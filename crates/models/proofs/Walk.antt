@@ -14,11 +14,11 @@ use Rattle.memory.specs.Owners.{start, end, Empty}
 use Rattle.memory.specs.Taking.{Takes}
 use Rattle.memory.proofs.Parts.{parts_assoc, parts_regroup, parts_none, here_out, here_right}
 use Rattle.memory.proofs.Rows.{row_join, takes_row_none}
-use Rattle.memory.proofs.Atoms.{atom_empty, cell-here}
+use Rattle.memory.proofs.Atoms.{atom_empty, cell_here}
 use Rattle.models.specs.Generic.{generic, Like}
-use Rattle.models.proofs.Like.{start-below, end_below, like_empty}
+use Rattle.models.proofs.Like.{start_below, end_below, like_empty}
 use Rattle.models.proofs.Dealing.{DealtEach, none_each, one_each, each_take_out}
-use Rattle.models.proofs.Generic.{Linked, is_empty, is-full, linked-cases, none_more, link_more, generic-first}
+use Rattle.models.proofs.Generic.{Linked, is_empty, is_full, linked_cases, none_more, link_more, generic_first}
 
 abbrev pub IsCell : Atom → Type 0
 IsCell (cell x y) = Unit {0}
@@ -34,7 +34,7 @@ pub atom_join :
     {a b m : Memory} (n : Names) (x : Atom) (q : ℕ) → Parts a b m → AtomHolds n x a → here q a ≡ false →
     IsRow (at n (end x)) q b → IsRow (at n (start x)) q m
 atom_join {a} n (cell x y) q t h k w =
-    some_cells (λ e. both_ways (here q a) k (rw e at (cell-here n x y a h))) h.0 (rw h.1 at t) w
+    some_cells (λ e. both_ways (here q a) k (rw e at (cell_here n x y a h))) h.0 (rw h.1 at t) w
 atom_join n (row x y) q t h k w = row_join t h w k
 
 -- cells with the same ends hold of the same
@@ -52,19 +52,19 @@ module _
     pub nothing_left : {cs : List Atom} {b : Memory} → DealtEach R cs b → generic g cs ≡ [] → b ≡ []
     nothing_left none_each e = refl
     nothing_left {b = b} (one_each {a = a} {more = more} {part = part} {rest = rest} t r d) e =
-        go (λ h. nothing_left d h) (linked-cases g a)
+        go (λ h. nothing_left d h) (linked_cases g a)
       where
         go : (generic g more ≡ [] → rest ≡ []) → Linked g a → b ≡ []
         go later (is_empty no_cell none) =
             let (holds, below) = known a part r in
             let no_part = atom_empty n a part ((like_empty k g n like a below).0 no_cell) holds in
             sym (parts_none (rw no_part at t)) ∙ later (sym (none_more g a (generic g more) none) ∙ e)
-        go later (is-full full some) = let never = sym (link_more g a (generic g more) some) ∙ e in cc
+        go later (is_full full some) = let never = sym (link_more g a (generic g more) some) ∙ e in cc
 
     -- something can be taken out of b, which leaves what the atoms have of which e is the generic memory
     pub record Carried (P : Memory → Type 0) (e b : Memory) : Type 0 where
       pub left : List Atom
-      pub is-generic : generic g left ≡ e
+      pub is_generic : generic g left ≡ e
       pub rest : Memory
       pub takes : Takes P b rest
       pub dealt : DealtEach R left rest
@@ -77,7 +77,7 @@ module _
         let (whole, g1, g2) = parts_regroup t c.takes.parts in
         record {
           left = c.left;
-          is-generic = c.is-generic;
+          is_generic = c.is_generic;
           rest = c.rest;
           takes = record { part = whole; parts = g2; is = f c.takes.part whole g1 c.takes.is };
           dealt = c.dealt;
@@ -93,16 +93,16 @@ module _
         Carried (IsRow (at n s) (at n t)) e b
     row_carries (no_cells same) s t ls lt ps qt cs {b = b} u d fits =
         let none = (takes_row_none ((like s t ls lt).0 (sym ps ∙ (same ∙ qt)))).1 refl in
-        record { left = cs; is-generic = sym (parts_none u); rest = b; takes = none; dealt = d }
+        record { left = cs; is_generic = sym (parts_none u); rest = b; takes = none; dealt = d }
     row_carries (some_cells {p = p} {r = r} {b = a} ne nz u w) s t ls lt ps qt cs v d fits =
         let (more, v1, v2) = parts_assoc v u in
-        let first = generic-first g cs v1 in
+        let first = generic_first g cs v1 in
         let x = first.atom in
         let (rest, out, d2) = each_take_out first.put d in
         let (holds, below) = known x out.part out.is in
-        let at-start : at g (start x) ≡ p = ap (λ c. c.place) first.is-link in
-        let at-end : r ≡ at g (end x) = ap (λ c. c.holds) (sym first.is-link) in
-        let same_start = (like s (start x) ls (start-below x below)).0 (sym ps ∙ sym at-start) in
+        let at-start : at g (start x) ≡ p = ap (λ c. c.place) first.is_link in
+        let at-end : r ≡ at g (end x) = ap (λ c. c.holds) (sym first.is_link) in
+        let same_start = (like s (start x) ls (start_below x below)).0 (sym ps ∙ sym at-start) in
         let absent = fits x out.part out.is first.full (rw at-start (here_out u)) in
         let fits-others : FitsAll (row (end x) t) a = λ y part i full h. fits y part i full (here_right u (at g (start y)) h) in
         let v3 = rw (← first.left) at v2 in
@@ -114,19 +114,19 @@ module _
         Parts a e (generic g cs) → DealtEach R cs b → FitsAll x a → Carried (AtomHolds n x) e b
     atom_carries (row x y) below h cs u d fits = row_carries h x y below.0 below.1 refl refl cs u d fits
     atom_carries (cell x y) below {a} h cs u d fits =
-        let first = generic-first g cs (rw h.1 at u) in
+        let first = generic_first g cs (rw h.1 at u) in
         let e = first.atom in
         let (rest, out, d2) = each_take_out first.put d in
         let (holds, e-below) = known e out.part out.is in
-        let at-start : at g (start e) ≡ at g x = ap (λ c. c.place) first.is-link in
-        let at-end : at g (end e) ≡ at g y = ap (λ c. c.holds) first.is-link in
-        let same_start = (like (start e) x (start-below e e-below) below.0).0 at-start in
+        let at-start : at g (start e) ≡ at g x = ap (λ c. c.place) first.is_link in
+        let at-end : at g (end e) ≡ at g y = ap (λ c. c.holds) first.is_link in
+        let same_start = (like (start e) x (start_below e e-below) below.0).0 at-start in
         let same_end = (like (end e) y (end_below e e-below) below.1).0 at-end in
-        let is-cell = fits e out.part out.is first.full (rw at-start (cell-here g x y a h)) in
+        let is-cell = fits e out.part out.is first.full (rw at-start (cell_here g x y a h)) in
         let own = cell_same n e x y out.part is-cell same_start same_end holds in
         record {
           left = first.others;
-          is-generic = first.left;
+          is_generic = first.left;
           rest = rest;
           takes = record { part = out.part; parts = out.parts; is = own };
           dealt = d2;
@@ -140,4 +140,4 @@ module _
     walk Q (one_each {a = x} {part = a} t q more) below cs e d fits =
         let (holds, fits-x) = fits x a q in
         let c = atom_carries x below.0 holds cs (rw e at t) d fits-x in
-        one_more c.takes.parts c.takes.is (walk Q more below.1 c.left (sym c.is-generic) c.dealt fits)
+        one_more c.takes.parts c.takes.is (walk Q more below.1 c.left (sym c.is_generic) c.dealt fits)

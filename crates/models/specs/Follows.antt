@@ -13,7 +13,7 @@ DoesFollow c d = (n : Names) (m : Memory) → T (sound m) → Says n m c → Say
 -- k names and a memory of which the first claim holds and the second does not
 pub record Against (k : ℕ) (c d : Claim) (n : Names) (m : Memory) : Type 0 where
   pub names : length n ≡ k
-  pub sound-m : T (sound m)
+  pub sound_m : T (sound m)
   pub says : Says n m c
   pub not : Says n m d → ⊥
 
@@ -27,7 +27,7 @@ CellBelow b c = (c.place < b) × (c.holds < b)
 -- no more than enough cells, and all places are below 256
 pub record Small (a : ℕ) (n : Names) (m : Memory) : Type 0 where
   pub cells : length m ≤ enough a
-  pub names-below : All (λ p. p < 256) n
+  pub names_below : All (λ p. p < 256) n
   pub places_below : All (CellBelow 256) m
 
 -- names and a small memory show that it does not follow

@@ -27,15 +27,15 @@ abbrev pub generic : Names → List Atom → Memory
 generic g cs = flat_map (linked g) cs
 
 -- the same, but two cells through the place t for a row that is not empty
-abbrev pub linked-through : Names → Atom → ℕ → Memory
-linked-through g (cell x y) t = linked g (cell x y)
-linked-through g (row x y) t =
+abbrev pub linked_through : Names → Atom → ℕ → Memory
+linked_through g (cell x y) t = linked g (cell x y)
+linked_through g (row x y) t =
     cond (nonempty g (row x y)) (record { place = at g x; holds = t } ∷ record { place = t; holds = at g y } ∷ []) []
 
 -- the generic memory, but the atom number i goes through t
 abbrev pub stretched : Names → List Atom → ℕ → ℕ → Memory
 stretched g [] i t = []
-stretched g (a ∷ cs) zero t = linked-through g a t ++ generic g cs
+stretched g (a ∷ cs) zero t = linked_through g a t ++ generic g cs
 stretched g (a ∷ cs) (suc i) t = linked g a ++ stretched g cs i t
 
 -- The memories to try for names with the places below k: the generic one, and all that are stretched through a place

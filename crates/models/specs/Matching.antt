@@ -19,11 +19,11 @@ pub record Placed (n : Names) (cs : List Atom) (m : Memory) (x : Atom) (part : M
 -- A cell can have a cell's part. So can a row; and it can have the part of a row that never has a cell at the first one's end,
 -- since that is nowhere, or the second one's end too, or another atom of cs has a cell there.
 pub data CanHave (g : Names) (cs : List Atom) : Atom → Atom → Type 0 where
-  cell-cell : {x y u z : ℕ} → CanHave g cs (cell x y) (cell u z)
-  row-cell : {x t u z : ℕ} → CanHave g cs (row x t) (cell u z)
+  cell_cell : {x y u z : ℕ} → CanHave g cs (cell x y) (cell u z)
+  row_cell : {x t u z : ℕ} → CanHave g cs (row x t) (cell u z)
   ends_nowhere : {x t u z : ℕ} → at g t ≡ 0 → CanHave g cs (row x t) (row u z)
   same_end : {x t u z : ℕ} → at g t ≡ at g z → CanHave g cs (row x t) (row u z)
-  cell-there : {x t u z : ℕ} → here (at g t) (generic g cs) ≡ true → CanHave g cs (row x t) (row u z)
+  cell_there : {x t u z : ℕ} → here (at g t) (generic g cs) ≡ true → CanHave g cs (row x t) (row u z)
 
 -- In the generic memory of the first claim's atoms, each atom of the second has cells of such atoms only whose parts it can have.
 abbrev pub Matches : Names → Claim → Claim → Type 0

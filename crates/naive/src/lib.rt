@@ -7,6 +7,8 @@
 // `random` and `making` make questions, `reading` reads their words into plain lists (`parts`), `cells` is a memory,
 // `dealing` asks whether a claim holds of one, `trying` goes through the memories, `telling` checks one that somebody
 // else told, and `judging` judges answers by these two. `worked` has questions whose answers are known.
+#![tactic(auto)]
+
 pub mod cells;
 pub mod dealing;
 pub mod judging;

@@ -7,7 +7,7 @@ use Rattle.claims.specs.Words.{PureBelow, AtomBelow, Fits, Limits}
 use Rattle.notation.specs.declared.spans.Span.{Span}
 use Rattle.notation.specs.Spelling.{spelling, spellings, Distinct}
 use Rattle.notation.proofs.Spelled.{no_bytes}
-use Rattle.notation.specs.Order.{pure_names, atom_names, claim-mentions, mentions, InOrder, done, known, new, Numbered, Accepted}
+use Rattle.notation.specs.Order.{pure_names, atom_names, claim_mentions, mentions, InOrder, done, known, new, Numbered, Accepted}
 
 pub in-order-append : {k m n : ℕ} {xs ys : List ℕ} → InOrder k xs m → InOrder m ys n → InOrder k (xs ++ ys) n
 in-order-append done b = b
@@ -32,15 +32,15 @@ all_back : (P : ℕ → Type 0) (xs ys : List ℕ) → All P (xs ++ ys) → All 
 all_back P [] ys h = h
 all_back P (x ∷ xs) ys h = all_back P xs ys h.1
 
-pures-below : (n : ℕ) (ps : List Pure) → All (λ x. x < n) (flat_map pure_names ps) → All (PureBelow n) ps
-pures-below n [] h = tt
-pures-below n (same x y ∷ ps) h = ((h.0, h.1.0), pures-below n ps h.1.1)
-pures-below n (other x y ∷ ps) h = ((h.0, h.1.0), pures-below n ps h.1.1)
+pures_below : (n : ℕ) (ps : List Pure) → All (λ x. x < n) (flat_map pure_names ps) → All (PureBelow n) ps
+pures_below n [] h = tt
+pures_below n (same x y ∷ ps) h = ((h.0, h.1.0), pures_below n ps h.1.1)
+pures_below n (other x y ∷ ps) h = ((h.0, h.1.0), pures_below n ps h.1.1)
 
-atoms-below : (n : ℕ) (cs : List Atom) → All (λ x. x < n) (flat_map atom_names cs) → All (AtomBelow n) cs
-atoms-below n [] h = tt
-atoms-below n (cell x y ∷ cs) h = ((h.0, h.1.0), atoms-below n cs h.1.1)
-atoms-below n (row x y ∷ cs) h = ((h.0, h.1.0), atoms-below n cs h.1.1)
+atoms_below : (n : ℕ) (cs : List Atom) → All (λ x. x < n) (flat_map atom_names cs) → All (AtomBelow n) cs
+atoms_below n [] h = tt
+atoms_below n (cell x y ∷ cs) h = ((h.0, h.1.0), atoms_below n cs h.1.1)
+atoms_below n (row x y ∷ cs) h = ((h.0, h.1.0), atoms_below n cs h.1.1)
 
 -- one more part at the end
 module _ {X Y : Type 0} (names : Y → List ℕ) (of : X → Y) where
@@ -57,12 +57,12 @@ two_accepted : {m n : ℕ} {a b : Claim} (spelled : List (List ℕ)) → n ≤ 6
 two_accepted {m} {n} {a} {b} spelled few e none apart x y =
     let order = in-order-append x.in_order y.in_order in
     let below = in-order-below order in
-    let front = all_front (λ i. i < n) (claim-mentions a) (claim-mentions b) below in
-    let back = all_back (λ i. i < n) (claim-mentions a) (claim-mentions b) below in
+    let front = all_front (λ i. i < n) (claim_mentions a) (claim_mentions b) below in
+    let back = all_back (λ i. i < n) (claim_mentions a) (claim_mentions b) below in
     record {
       limits = record {
         some_names = in-order-grows order;
-        few-names = few;
+        few_names = few;
         first_fits = fits a x front;
         second_fits = fits b y back;
       };
@@ -72,20 +72,20 @@ two_accepted {m} {n} {a} {b} spelled few e none apart x y =
       distinct = apart;
     }
   where
-    fits : {k l : ℕ} (c : Claim) → Numbered k c l → All (λ i. i < n) (claim-mentions c) → Fits n c
+    fits : {k l : ℕ} (c : Claim) → Numbered k c l → All (λ i. i < n) (claim_mentions c) → Fits n c
     fits c z h = record {
-      few-pures = z.few-pures;
-      few-atoms = z.few-atoms;
-      pures-below = pures-below n c.pures (all_front (λ i. i < n) (flat_map pure_names c.pures) (flat_map atom_names c.atoms) h);
-      atoms-below = atoms-below n c.atoms (all_back (λ i. i < n) (flat_map pure_names c.pures) (flat_map atom_names c.atoms) h);
+      few_pures = z.few_pures;
+      few_atoms = z.few_atoms;
+      pures_below = pures_below n c.pures (all_front (λ i. i < n) (flat_map pure_names c.pures) (flat_map atom_names c.atoms) h);
+      atoms_below = atoms_below n c.atoms (all_back (λ i. i < n) (flat_map pure_names c.pures) (flat_map atom_names c.atoms) h);
     }
 
 -- a name that came before, and the next new one
 pub one_known : {k x : ℕ} → x < k → InOrder k (x ∷ []) k
 one_known lt = known lt done
 
-pub one-new : {k x n : ℕ} → x ≡ k → n ≡ k + 1 → InOrder k (x ∷ []) n
-one-new {k} {x} {n} e f =
+pub one_new : {k x n : ℕ} → x ≡ k → n ≡ k + 1 → InOrder k (x ∷ []) n
+one_new {k} {x} {n} e f =
     let P : ℕ → Type 0 = λ y. InOrder k (y ∷ []) n in
     let Q : ℕ → Type 0 = λ m. InOrder k (k ∷ []) m in
     let g : suc k ≡ n = omega arith in
@@ -108,6 +108,6 @@ both_accepted {k} {m} {n} {a} {b} names text was spans one equal few long still 
 pub claim_numbered : {X Y : Type 0} (f : X → Pure) (g : Y → Atom) {k m n : ℕ} (ps : List X) (cs : List Y) → InOrder k (flat_map pure_names (map f ps)) m → InOrder m (flat_map atom_names (map g cs)) n → length ps ≤ 256 → length cs ≤ 64 → Numbered k (record { pures = map f ps; atoms = map g cs }) n
 claim_numbered f g ps cs a b few-p few-a = record {
   in_order = in-order-append a b;
-  few-pures = rw length-map few-p;
-  few-atoms = rw length-map few-a;
+  few_pures = rw length-map few-p;
+  few_atoms = rw length-map few-a;
 }

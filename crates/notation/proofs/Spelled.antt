@@ -79,22 +79,22 @@ module _ (text : List ℕ) (names items : List Span) (is : items ≡ names) wher
   pub found_here : (d : Span) (i : ℕ) (s w : List ℕ) (b : Bool) → i < length items → s ≡ spelling text (get_or items i d) → Decides b (s ≡ w) → b ≡ true → (i < length (spellings text names)) × (get_or (spellings text names) i [] ≡ w)
   found_here d i s w b lt e test taken = (omega (arith, lt, ap length is, length-map names (spelling text)), here_spelled d i s lt e ∙ test.0 taken)
 
-  pub not-here : (d : Span) (i : ℕ) (s w : List ℕ) (b : Bool) → i < length items → s ≡ spelling text (get_or items i d) → Decides b (s ≡ w) → b ≡ false → get_or (spellings text names) i [] ≡ w → ⊥
-  not-here d i s w b lt e test left h = never_both b (test.1 (sym (here_spelled d i s lt e) ∙ h)) left
+  pub not_here : (d : Span) (i : ℕ) (s w : List ℕ) (b : Bool) → i < length items → s ≡ spelling text (get_or items i d) → Decides b (s ≡ w) → b ≡ false → get_or (spellings text names) i [] ≡ w → ⊥
+  not_here d i s w b lt e test left h = never_both b (test.1 (sym (here_spelled d i s lt e) ∙ h)) left
 
-  pub nowhere-there : (i : ℕ) (w : List ℕ) → length items ≤ i → ((k : ℕ) → k < i → get_or (spellings text names) k [] ≡ w → ⊥) → (k : ℕ) → k < length (spellings text names) → get_or (spellings text names) k [] ≡ w → ⊥
-  nowhere-there i w le none k lt e = none k (omega (arith, lt, le, ap length is, length-map names (spelling text))) e
+  pub nowhere_there : (i : ℕ) (w : List ℕ) → length items ≤ i → ((k : ℕ) → k < i → get_or (spellings text names) k [] ≡ w → ⊥) → (k : ℕ) → k < length (spellings text names) → get_or (spellings text names) k [] ≡ w → ⊥
+  nowhere_there i w le none k lt e = none k (omega (arith, lt, le, ap length is, length-map names (spelling text))) e
 
 -- after an attempt to add a name, whether there was memory for it or not
 module _ (text : List ℕ) (names more : List Span) (x : Span) where
-  pub first-kept : (b : Bool) → more ≡ cond b (names ++ x ∷ []) names → 1 ≤ length names → length (get_or (spellings text names) 0 []) ≡ 0 → length (get_or (spellings text more) 0 []) ≡ 0
-  first-kept true e some h = first_push text names more x e some h
-  first-kept false e some h =
+  pub first_kept : (b : Bool) → more ≡ cond b (names ++ x ∷ []) names → 1 ≤ length names → length (get_or (spellings text names) 0 []) ≡ 0 → length (get_or (spellings text more) 0 []) ≡ 0
+  first_kept true e some h = first_push text names more x e some h
+  first_kept false e some h =
       let P : List Span → Type 0 = λ l. length (get_or (spellings text l) 0 []) ≡ 0 in
       subst P (sym e) h
 
-  pub distinct-kept : (b : Bool) → more ≡ cond b (names ++ x ∷ []) names → Distinct (spellings text names) → ((k : ℕ) → k < length (spellings text names) → get_or (spellings text names) k [] ≡ spelling text x → ⊥) → Distinct (spellings text more)
-  distinct-kept true e h none = distinct_push text names more x e h none
-  distinct-kept false e h none =
+  pub distinct_kept : (b : Bool) → more ≡ cond b (names ++ x ∷ []) names → Distinct (spellings text names) → ((k : ℕ) → k < length (spellings text names) → get_or (spellings text names) k [] ≡ spelling text x → ⊥) → Distinct (spellings text more)
+  distinct_kept true e h none = distinct_push text names more x e h none
+  distinct_kept false e h none =
       let P : List Span → Type 0 = λ l. Distinct (spellings text l) in
       subst P (sym e) h

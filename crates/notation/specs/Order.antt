@@ -13,12 +13,12 @@ abbrev pub atom_names : Atom → List ℕ
 atom_names (cell x y) = x ∷ y ∷ []
 atom_names (row x y) = x ∷ y ∷ []
 
-abbrev pub claim-mentions : Claim → List ℕ
-claim-mentions c = flat_map pure_names c.pures ++ flat_map atom_names c.atoms
+abbrev pub claim_mentions : Claim → List ℕ
+claim_mentions c = flat_map pure_names c.pures ++ flat_map atom_names c.atoms
 
 -- the names that a question mentions, in the order of its words
 abbrev pub mentions : Question → List ℕ
-mentions q = claim-mentions q.first ++ claim-mentions q.second
+mentions q = claim_mentions q.first ++ claim_mentions q.second
 
 -- from k names that came before: each name is one of those, or is the next new one; n are there in the end
 pub data InOrder : ℕ → List ℕ → ℕ → Type 0 where
@@ -28,9 +28,9 @@ pub data InOrder : ℕ → List ℕ → ℕ → Type 0 where
 
 -- a claim within the limits of a claim's parts, with its names in order from k to n
 pub record Numbered (k : ℕ) (c : Claim) (n : ℕ) : Type 0 where
-  pub in_order : InOrder k (claim-mentions c) n
-  pub few-pures : length c.pures ≤ 256
-  pub few-atoms : length c.atoms ≤ 64
+  pub in_order : InOrder k (claim_mentions c) n
+  pub few_pures : length c.pures ≤ 256
+  pub few_atoms : length c.atoms ≤ 64
 
 -- a question that reading accepts, with its names as they are spelled; the first is nowhere and empty, and no
 -- two are the same

@@ -3,6 +3,8 @@
 //
 // `Reader` gives the questions of a text one after another. `report` makes an error into lines for
 // people, and `normal_form` prints a question so that reading it again gives the same question.
+#![tactic(auto)]
+
 pub mod drafts;
 pub mod faults;
 pub mod lines;

@@ -1,5 +1,7 @@
 // Tests of the notation: its limits at their edges, its errors and where they are, and that the normal form
 // of a question reads as the same question.
+#![tactic(auto)]
+
 #[cfg(test)]
 mod tests {
     use claims::Claim;

@@ -1,5 +1,7 @@
 // The program `says`: reads questions from files or from standard input, and prints each in the normal form, with what
 // must be so of the names of its first claim.
+#![tactic(auto)]
+
 use anyhow::anyhow;
 use console::{Arguments, load_named};
 use findings::found;

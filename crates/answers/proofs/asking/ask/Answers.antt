@@ -5,28 +5,28 @@ use Rattle.answers.proofs.asking.ask.Goals as goal
 
 pub returns-in-Follows : goal.returns-in-Follows
 returns-in-Follows c =
-    does_follow (question_of c.args.question.now) c.requires _ _ _ _ _ (c.as-slice.ensures.value ∙ c.in-ok-words.ensures) c.decide.ensures c.in-Follows.is
+    does_follow (question_of c.args.question.now) c.requires _ _ _ _ _ (c.as_slice.ensures.value ∙ c.in_ok-words.ensures) c.decide.ensures c.in-Follows.is
 
-pub returns-in-err-instance : goal.returns-in-err-instance
-returns-in-err-instance c = no_memory _ _ c.from-residual-in-err-instance.ensures.0
+pub returns-in_err-instance : goal.returns-in_err-instance
+returns-in_err-instance c = no_memory _ _ c.from_residual-in_err-instance.ensures.0
 
 pub returns-in-Fails : goal.returns-in-Fails
 returns-in-Fails c =
     let q = question_of c.args.question.now in
-    refuting q _ c.decide.new.out c.in-Fails.cells c.from-names.result c.in-ok-instance.instance
-    (shown q c.requires _ _ _ _ _ (c.as-slice.ensures.value ∙ c.in-ok-words.ensures) c.decide.ensures c.in-Fails.cells c.in-Fails.is)
+    refuting q _ c.decide.new.out c.in-Fails.cells c.from-names.result c.in_ok-instance.instance
+    (shown q c.requires _ _ _ _ _ (c.as_slice.ensures.value ∙ c.in_ok-words.ensures) c.decide.ensures c.in-Fails.cells c.in-Fails.is)
     c.from-names.ensures
-    c.in-ok-instance.ensures.names
-    c.in-ok-instance.ensures.memory
+    c.in_ok-instance.ensures.names
+    c.in_ok-instance.ensures.memory
 
 pub unreachable-requires : goal.unreachable-requires
 unreachable-requires c =
     let q = question_of c.args.question.now in
-    let is = c.as-slice.ensures.value ∙ c.in-ok-words.ensures in
+    let is = c.as_slice.ensures.value ∙ c.in_ok-words.ensures in
     let lent = c.args.lent.now.enough in
     ⊎_elim
     (never_none q c.requires _ _ _ _ _ is c.decide.ensures)
     (⊎_elim
-    (never_few q c.requires _ _ _ _ _ is c.decide.ensures (omega (arith, lent, c.as-mut-slice.ensures.len)))
+    (never_few q c.requires _ _ _ _ _ is c.decide.ensures (omega (arith, lent, c.as_mut_slice.ensures.len)))
     (never_full q c.requires _ _ _ _ _ is c.decide.ensures (omega arith)))
     c.in-NoClaims.is

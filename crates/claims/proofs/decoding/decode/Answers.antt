@@ -2,29 +2,29 @@ use Rattle.std.proofs.Common.{◌≡◌, ◌+◌, ◌-◌, ◌*◌, ◌≤◌, m
 use Rattle.claims.specs.Claims.{Claim}
 use Rattle.claims.specs.Words.{pure_words, atom_words, PureBelow, AtomBelow}
 use Rattle.claims.specs.Meaning.{pure_of, atom_of}
-use Rattle.claims.proofs.Putting.{count-put}
-use Rattle.claims.proofs.ClaimWords.{Stands, behind, claim_stands, claim_made, count-pures, count-atoms}
+use Rattle.claims.proofs.Putting.{count_put}
+use Rattle.claims.proofs.ClaimWords.{Stands, behind, claim_stands, claim_made, count_pures, count_atoms}
 use Rattle.claims.proofs.decoding.decode.Goals as goal
 
 pub returns-then-parts-shape : goal.returns-then-parts-shape
 returns-then-parts-shape c =
     record { decodes = λ k rest e f. omega (arith, (claim_stands k c.args.words.now rest e).room); room = tt }
 
-pub returns-in-default : goal.returns-in-default
-returns-in-default c =
+pub returns-in_default : goal.returns-in_default
+returns-in_default c =
     record {
       decodes =
           λ k rest e f.
-          c.in-default.ensures k.pures (claim_stands k c.args.words.now rest e).pure_part f.pures-below;
+          c.in_default.ensures k.pures (claim_stands k c.args.words.now rest e).pure_part f.pures_below;
       room = tt;
     }
 
-pub returns-in-default-atoms : goal.returns-in-default-atoms
-returns-in-default-atoms c =
+pub returns-in_default-atoms : goal.returns-in_default-atoms
+returns-in_default-atoms c =
     record {
       decodes =
           λ k rest e f.
-          c.in-default-atoms.ensures k.atoms (claim_stands k c.args.words.now rest e).atom_part f.atoms-below;
+          c.in_default-atoms.ensures k.atoms (claim_stands k c.args.words.now rest e).atom_part f.atoms_below;
       room = tt;
     }
 
@@ -35,20 +35,20 @@ returns c =
     let a = get_or s 1 0 in
     let few : 3 * (p + a) ≤ length (behind s) = omega arith in
     let enough : 2 ≤ length s = omega arith in
-    let pure-words-of = take (3 * p - 0) (behind s) in
-    let atom-words-of = take (3 * (p + a) - 3 * p) (drop (3 * p) (behind s)) in
-    let pure-count : length pure-words-of ≡ 3 * p = omega (arith, length-take (3 * p - 0) (behind s)) in
-    let atom-count : length atom-words-of ≡ 3 * a =
+    let pure_words-of = take (3 * p - 0) (behind s) in
+    let atom_words-of = take (3 * (p + a) - 3 * p) (drop (3 * p) (behind s)) in
+    let pure_count : length pure_words-of ≡ 3 * p = omega (arith, length-take (3 * p - 0) (behind s)) in
+    let atom_count : length atom_words-of ≡ 3 * a =
     omega (arith, length-take (3 * (p + a) - 3 * p) (drop (3 * p) (behind s)), length-drop (3 * p) (behind s)) in
     let f = c.in-Some.ensures in
     let g = c.in-Some-atoms.ensures in
-    let pures-are = count-put pure_words (PureBelow c.args.names) pure_of pure-words-of p c.in-Some.pures pure-count f.1 f.2 in
-    let atoms_are = count-put atom_words (AtomBelow c.args.names) atom_of atom-words-of a c.in-Some-atoms.atoms atom-count g.1 g.2 in
+    let pures-are = count_put pure_words (PureBelow c.args.names) pure_of pure_words-of p c.in-Some.pures pure_count f.1 f.2 in
+    let atoms_are = count_put atom_words (AtomBelow c.args.names) atom_of atom_words-of a c.in-Some-atoms.atoms atom_count g.1 g.2 in
     let k : Claim = record { pures = map pure_of (take p c.in-Some.pures); atoms = map atom_of (take a c.in-Some-atoms.atoms) } in
     let st : Stands k p a (behind s) =
     record {
-      pures = count-pures k.pures p a (behind s) few pures-are.0;
-      atoms = count-atoms k.atoms p a (behind s) few atoms_are.0;
+      pures = count_pures k.pures p a (behind s) few pures-are.0;
+      atoms = count_atoms k.atoms p a (behind s) few atoms_are.0;
       room = few;
       pure_part = pures-are.0;
       atom_part = atoms_are.0;
@@ -60,10 +60,10 @@ returns c =
             words = claim_made k s enough st;
             fits =
                 record {
-                  few-pures = omega (arith, st.pures);
-                  few-atoms = omega (arith, st.atoms);
-                  pures-below = pures-are.1;
-                  atoms-below = atoms_are.1;
+                  few_pures = omega (arith, st.pures);
+                  few_atoms = omega (arith, st.atoms);
+                  pures_below = pures-are.1;
+                  atoms_below = atoms_are.1;
                 };
             shape = record { pures = st.pures; atoms = st.atoms };
           };

@@ -13,9 +13,9 @@ returns-then-words-ne0 c xs e a =
 pub loop-i-init : goal.loop-i-init
 loop-i-init c = record { room = refl; words = refl; meant = tt }
 
-pub returns-in-default : goal.returns-in-default
-returns-in-default c =
-    threes_stop pure_words (PureBelow c.args.names) length_pure c.args.words.now c.loop-i.i c.loop-i-test.true c.in-default.ensures
+pub returns-in_default : goal.returns-in_default
+returns-in_default c =
+    threes_stop pure_words (PureBelow c.args.names) length_pure c.args.words.now c.loop-i.i c.loop-i-test.true c.in_default.ensures
 
 pub loop-i-preserved : goal.loop-i-preserved
 loop-i-preserved c =

@@ -10,9 +10,9 @@ pub returns-then-words-ne0 : goal.returns-then-words-ne0
 returns-then-words-ne0 c xs e a =
     threes_rest atom_words (AtomBelow c.args.names) length_atom c.args.words.now c.if-words-ne0.true xs e
 
-pub returns-in-default : goal.returns-in-default
-returns-in-default c =
-    threes_stop atom_words (AtomBelow c.args.names) length_atom c.args.words.now c.loop-i.i c.loop-i-test.true c.in-default.ensures
+pub returns-in_default : goal.returns-in_default
+returns-in_default c =
+    threes_stop atom_words (AtomBelow c.args.names) length_atom c.args.words.now c.loop-i.i c.loop-i-test.true c.in_default.ensures
 
 pub loop-i-preserved : goal.loop-i-preserved
 loop-i-preserved c =

@@ -8,7 +8,7 @@ use Rattle.claims.proofs.questions.push_atoms.Goals as goal
 
 pub loop-atom-preserved : goal.loop-atom-preserved
 loop-atom-preserved c =
-    c.in-ok-extend-from-slice.ensures.items ∙
+    c.in_ok-extend_from_slice.ensures.items ∙
     ap₂ (λ u v. u ++ v) c.loop-atom.invariant c.words.ensures ∙
     joined_map_more atom_words atom_of (vec_items c.args.out.now) c.args.atoms.now c.loop-atom.atom-index _ c.loop-atom-test.true
 

@@ -9,10 +9,10 @@ use Rattle.claims.proofs.questions.push_claim.Goals as goal
 pub returns : goal.returns
 returns c =
     let k = c.args.claim.now in
-    claim_pushed (claim_of k) c.len.result c.len-2.result (vec_items c.args.out.now) (vec_items c.push.new.self) (vec_items c.push-2.new.self) (vec_items c.push-pures.new.out) (vec_items c.push-atoms.new.out)
+    claim_pushed (claim_of k) c.len.result c.len-2.result (vec_items c.args.out.now) (vec_items c.push.new.self) (vec_items c.push-2.new.self) (vec_items c.push_pures.new.out) (vec_items c.push_atoms.new.out)
     (length-map (vec_items k.pures) pure_of ∙ sym k.pures.ok.0 ∙ sym c.len.ensures)
     (length-map (vec_items k.atoms) atom_of ∙ sym k.atoms.ok.0 ∙ sym c.len-2.ensures)
-    c.in-ok-push.ensures.items
-    c.in-ok-push-2.ensures.items
-    (c.in-ok-push-pures.ensures ∙ ap (λ u. vec_items c.push-2.new.self ++ flat_map pure_words (map pure_of u)) c.as-slice.ensures.value)
-    (c.in-ok-push-atoms.ensures ∙ ap (λ u. vec_items c.push-pures.new.out ++ flat_map atom_words (map atom_of u)) c.as-slice-2.ensures.value)
+    c.in_ok-push.ensures.items
+    c.in_ok-push-2.ensures.items
+    (c.in_ok-push_pures.ensures ∙ ap (λ u. vec_items c.push-2.new.self ++ flat_map pure_words (map pure_of u)) c.as_slice.ensures.value)
+    (c.in_ok-push_atoms.ensures ∙ ap (λ u. vec_items c.push_pures.new.out ++ flat_map atom_words (map atom_of u)) c.as_slice-2.ensures.value)

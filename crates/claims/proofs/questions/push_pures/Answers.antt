@@ -8,7 +8,7 @@ use Rattle.claims.proofs.questions.push_pures.Goals as goal
 
 pub loop-pure-preserved : goal.loop-pure-preserved
 loop-pure-preserved c =
-    c.in-ok-extend-from-slice.ensures.items ∙
+    c.in_ok-extend_from_slice.ensures.items ∙
     ap₂ (λ u v. u ++ v) c.loop-pure.invariant c.words.ensures ∙
     joined_map_more pure_words pure_of (vec_items c.args.out.now) c.args.pures.now c.loop-pure.pure-index _ c.loop-pure-test.true
 

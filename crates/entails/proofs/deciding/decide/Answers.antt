@@ -7,16 +7,16 @@ use Rattle.entails.proofs.deciding.decide.Goals as goal
 pub returns-then-work-lt-LENT : goal.returns-then-work-lt-LENT
 returns-then-work-lt-LENT c = record { answer = refl; few = ((λ _. refl), (λ _. c.if-work-lt-LENT.true)); theorems = theorems }
 
-pub returns-in-default : goal.returns-in-default
-returns-in-default c =
+pub returns-in_default : goal.returns-in_default
+returns-in_default c =
     post c.args.words.now (length c.args.work.now) c.args.out.now c.args.out.now NoClaims c.if-work-lt-LENT.false
-    (λ e. let z : ◌≡◌ {A = ℕ} 0 1 = cc in omega arith) (record { none = c.in-default.ensures; unchanged = refl })
+    (λ e. let z : ◌≡◌ {A = ℕ} 0 1 = cc in omega arith) (record { none = c.in_default.ensures; unchanged = refl })
 
-pub returns-in-default-settle : goal.returns-in-default-settle
-returns-in-default-settle c =
+pub returns-in_default-settle : goal.returns-in_default-settle
+returns-in_default-settle c =
     post c.args.words.now (length c.args.work.now) c.args.out.now c.args.out.now Follows c.if-work-lt-LENT.false
     (λ e. let z : ◌≡◌ {A = ℕ} 0 1 = cc in omega arith)
-    (record { question = question_of c.in-Some.goal; reads = c.in-Some.ensures; so = record { follows = c.in-default-settle.ensures; unchanged = refl } })
+    (record { question = question_of c.in-Some.goal; reads = c.in-Some.ensures; so = record { follows = c.in_default-settle.ensures; unchanged = refl } })
 
 pub returns : goal.returns
 returns c =

@@ -8,5 +8,5 @@ returns c =
     let s = c.args.words.now in
     let o = c.args.out.now in
     let from = c.args.from in
-    put_mid-paste from (from + length s - from) o c.copy-from-slice.new.self s (length s) c.copy-from-slice.ensures.after (omega arith) refl ∙
+    put_mid-paste from (from + length s - from) o c.copy_from_slice.new.self s (length s) c.copy_from_slice.ensures.after (omega arith) refl ∙
     ap (λ u. take from o ++ u ++ drop (from + length s) o) (take_all (length s) s (omega arith))

@@ -7,12 +7,12 @@ use Rattle.matching.specs.Rules.{PureKnown}
 use Rattle.entails.proofs.Each.{at_each, each_more}
 use Rattle.entails.proofs.pures.all_known.Goals as goal
 
-pub is-known-requires : goal.is-known-requires
-is-known-requires c = at_each (PureBelow 64) pure_of c.args.pures.now c.loop-pure.pure-index _ c.loop-pure-test.true c.requires
+pub is_known-requires : goal.is_known-requires
+is_known-requires c = at_each (PureBelow 64) pure_of c.args.pures.now c.loop-pure.pure-index _ c.loop-pure-test.true c.requires
 
 pub loop-pure-preserved : goal.loop-pure-preserved
 loop-pure-preserved c =
-    each_more (PureKnown c.args.known.now) pure_of c.args.pures.now c.loop-pure.pure-index _ c.loop-pure-test.true c.loop-pure.invariant (c.if-not-is-known.ensures refl)
+    each_more (PureKnown c.args.known.now) pure_of c.args.pures.now c.loop-pure.pure-index _ c.loop-pure-test.true c.loop-pure.invariant (c.if-not-is_known.ensures refl)
 
 pub returns : goal.returns
 returns c _ =

@@ -1,27 +1,27 @@
 use Rattle.std.proofs.Common.{◌≡◌, ◌≤◌, [], ◌++◌, length, get_or, sym, refl, ap, ◌∙◌, subst, arith}
 use Rattle.std.proofs.lemmas.List.{append-nil}
-use Rattle.claims.specs.Words.{Fits, claim-words}
+use Rattle.claims.specs.Words.{Fits, claim_words}
 use Rattle.claims.specs.Decoding.{decoded_claim}
-use Rattle.claims.proofs.ClaimWords.{claim-one, length-claim, from, rest_from, claim-whole, question-apart, question_made, second_is}
+use Rattle.claims.proofs.ClaimWords.{claim_one, length_claim, from, rest_from, claim_whole, question_apart, question_made, second_is}
 use Rattle.entails.specs.Telling.{question_of}
 use Rattle.entails.proofs.reading.read_goal.Goals as goal
 
 -- the first claim is none
-pub returns-in-default : goal.returns-in-default
-returns-in-default c q r =
-    let p = question-apart c.args.words.now q r in
-    c.in-default.ensures.decodes q.first (claim-words q.second) p.1 (subst (λ n. Fits n q.first) (sym p.0) r.limits.first_fits)
+pub returns-in_default : goal.returns-in_default
+returns-in_default c q r =
+    let p = question_apart c.args.words.now q r in
+    c.in_default.ensures.decodes q.first (claim_words q.second) p.1 (subst (λ n. Fits n q.first) (sym p.0) r.limits.first_fits)
 
 -- the second claim is none
-pub returns-in-default-decode : goal.returns-in-default-decode
-returns-in-default-decode c q r =
+pub returns-in_default-decode : goal.returns-in_default-decode
+returns-in_default-decode c q r =
     let s = c.args.words.now in
     let d1 = c.in-Some.first in
     let f = c.in-Some.ensures.decodes in
-    let k = length-claim (decoded_claim d1) d1.shape.pures d1.shape.atoms f.shape.pures f.shape.atoms in
+    let k = length_claim (decoded_claim d1) d1.shape.pures d1.shape.atoms f.shape.pures f.shape.atoms in
     let d = rest_from (decoded_claim d1) c.len.result (from 1 s) f.rest f.words (k ∙ sym c.len.ensures) in
-    let e = d ∙ second_is s q (decoded_claim d1) f.rest r f.words ∙ sym (append-nil (claim-words q.second)) in
-    c.in-default-decode.ensures.decodes q.second [] e (subst (λ n. Fits n q.second) (sym (question-apart s q r).0) r.limits.second_fits)
+    let e = d ∙ second_is s q (decoded_claim d1) f.rest r f.words ∙ sym (append-nil (claim_words q.second)) in
+    c.in_default-decode.ensures.decodes q.second [] e (subst (λ n. Fits n q.second) (sym (question_apart s q r).0) r.limits.second_fits)
 
 -- words are left over behind the second claim
 pub returns-then-rest-len : goal.returns-then-rest-len
@@ -31,12 +31,12 @@ returns-then-rest-len c q r =
     let d2 = c.in-Some-decode.second in
     let f = c.in-Some.ensures.decodes in
     let g = c.in-Some-decode.ensures.decodes in
-    let k = length-claim (decoded_claim d1) d1.shape.pures d1.shape.atoms f.shape.pures f.shape.atoms in
-    let l = length-claim (decoded_claim d2) d2.shape.pures d2.shape.atoms g.shape.pures g.shape.atoms in
+    let k = length_claim (decoded_claim d1) d1.shape.pures d1.shape.atoms f.shape.pures f.shape.atoms in
+    let l = length_claim (decoded_claim d2) d2.shape.pures d2.shape.atoms g.shape.pures g.shape.atoms in
     let d = rest_from (decoded_claim d1) c.len.result (from 1 s) f.rest f.words (k ∙ sym c.len.ensures) in
     let e = d ∙ second_is s q (decoded_claim d1) f.rest r f.words in
-    let o = claim-one q.second (decoded_claim d2) [] g.rest (append-nil (claim-words q.second) ∙ sym e ∙ g.words) in
-    c.if-rest-len.true (ap length (e ∙ ap claim-words o.0) ∙ l ∙ sym c.len-2.ensures)
+    let o = claim_one q.second (decoded_claim d2) [] g.rest (append-nil (claim_words q.second) ∙ sym e ∙ g.words) in
+    c.if-rest-len.true (ap length (e ∙ ap claim_words o.0) ∙ l ∙ sym c.len-2.ensures)
 
 pub returns : goal.returns
 returns c =
@@ -45,13 +45,13 @@ returns c =
     let d2 = c.in-Some-decode.second in
     let f = c.in-Some.ensures.decodes in
     let g = c.in-Some-decode.ensures.decodes in
-    let k = length-claim (decoded_claim d1) d1.shape.pures d1.shape.atoms f.shape.pures f.shape.atoms in
-    let l = length-claim (decoded_claim d2) d2.shape.pures d2.shape.atoms g.shape.pures g.shape.atoms in
+    let k = length_claim (decoded_claim d1) d1.shape.pures d1.shape.atoms f.shape.pures f.shape.atoms in
+    let l = length_claim (decoded_claim d2) d2.shape.pures d2.shape.atoms g.shape.pures g.shape.atoms in
     let d = rest_from (decoded_claim d1) c.len.result (from 1 s) f.rest f.words (k ∙ sym c.len.ensures) in
-    let w = claim-whole (decoded_claim d2) (from c.len.result (from 1 s)) g.rest g.words (l ∙ sym c.len-2.ensures ∙ sym c.if-rest-len.false) in
-    let e = f.words ∙ ap (λ u. claim-words (decoded_claim d1) ++ u) (sym d ∙ w) in
+    let w = claim_whole (decoded_claim d2) (from c.len.result (from 1 s)) g.rest g.words (l ∙ sym c.len-2.ensures ∙ sym c.if-rest-len.false) in
+    let e = f.words ∙ ap (λ u. claim_words (decoded_claim d1) ++ u) (sym d ∙ w) in
     let h : 1 ≤ length s = omega arith in
     record {
       is = question_made s (record { names = get_or s 0 0; first = decoded_claim d1; second = decoded_claim d2 }) h refl e;
-      limits = record { some_names = omega arith; few-names = omega arith; first_fits = f.fits; second_fits = g.fits };
+      limits = record { some_names = omega arith; few_names = omega arith; first_fits = f.fits; second_fits = g.fits };
     }

@@ -5,7 +5,7 @@ use Rattle.claims.specs.Meaning.{atom_of}
 use Rattle.claims.specs.Words.{AtomBelow}
 use Rattle.linked.specs.Living.{Lives, atoms_of}
 use Rattle.entails.specs.Telling.{first_of, second_of}
-use Rattle.entails.proofs.Bounds.{first-atoms, second-atoms}
+use Rattle.entails.proofs.Bounds.{first_atoms, second_atoms}
 use Rattle.matching.proofs.Lists.{empty_list, front, front_all}
 use Rattle.entails.proofs.settling.whole.Goals as goal
 
@@ -14,7 +14,7 @@ of-own-requires c =
     let g = c.args.goal.now in
     record {
       few = omega (arith, length-take (g.first.shape.atoms - 0) g.first.atoms, g.first_room);
-      small = front_all (AtomBelow 64) atom_of g.first.shape.atoms g.first.atoms (first-atoms g c.requires);
+      small = front_all (AtomBelow 64) atom_of g.first.shape.atoms g.first.atoms (first_atoms g c.requires);
     }
 
 pub of-wanted-requires : goal.of-wanted-requires
@@ -22,7 +22,7 @@ of-wanted-requires c =
     let g = c.args.goal.now in
     record {
       few = omega (arith, length-take (g.second.shape.atoms - 0) g.second.atoms, g.second_room);
-      small = front_all (AtomBelow 64) atom_of g.second.shape.atoms g.second.atoms (second-atoms g c.requires);
+      small = front_all (AtomBelow 64) atom_of g.second.shape.atoms g.second.atoms (second_atoms g c.requires);
     }
 
 pub returns : goal.returns

@@ -4,7 +4,7 @@ use Rattle.models.specs.Generic.{stretched}
 use Rattle.entails.specs.Telling.{first_of}
 use Rattle.matching.proofs.Lists.{front}
 use Rattle.entails.proofs.Stretching.{stretched-enough}
-use Rattle.entails.proofs.Against.{tried-one}
+use Rattle.entails.proofs.Against.{tried_one}
 use Rattle.entails.proofs.trials.try_one.Goals as goal
 
 pub returns : goal.returns
@@ -15,6 +15,6 @@ returns c =
     record {
       names = c.write.ensures.names;
       tried =
-          tried-one g c.write.new.told n (stretched n (first_of g).atoms c.args.i c.args.t) c.is-against.result c.requires.limits
-          c.write.ensures.names (c.write.ensures.cells ∙ atoms) (stretched-enough n (first_of g).atoms c.args.i c.args.t) c.is-against.ensures;
+          tried_one g c.write.new.told n (stretched n (first_of g).atoms c.args.i c.args.t) c.is_against.result c.requires.limits
+          c.write.ensures.names (c.write.ensures.cells ∙ atoms) (stretched-enough n (first_of g).atoms c.args.i c.args.t) c.is_against.ensures;
     }

@@ -9,15 +9,15 @@ use Rattle.linked.specs.Propagating.{Assumed}
 use Rattle.linked.proofs.Learning.{assumed_more, assumed_never}
 use Rattle.linked.proofs.assume.assume.Goals as goal
 
-pub assume-one-requires : goal.assume-one-requires
-assume-one-requires c =
+pub assume_one-requires : goal.assume_one-requires
+assume_one-requires c =
     subst (PureBelow 64) (get_or-map pure_of c.args.pures.now c.loop-pure.pure-index _ (same 0 0) c.loop-pure-test.true)
     (All-get_or (PureBelow 64) (map pure_of c.args.pures.now) c.loop-pure.pure-index (same 0 0) (omega (arith, length-map c.args.pures.now pure_of)) c.requires)
 
-pub returns-in-default : goal.returns-in-default
-returns-in-default c =
+pub returns-in_default : goal.returns-in_default
+returns-in_default c =
     assumed_never c.args.known c.loop-pure.known (map pure_of (take c.loop-pure.pure-index c.args.pures.now)) _ c.loop-pure.invariant
-    (map pure_of c.args.pures.now) c.loop-pure.pure-index c.in-default.ensures
+    (map pure_of c.args.pures.now) c.loop-pure.pure-index c.in_default.ensures
     (take-map pure_of _ c.args.pures.now ∙ map_more pure_of c.args.pures.now c.loop-pure.pure-index _ c.loop-pure-test.true)
 
 pub loop-pure-preserved : goal.loop-pure-preserved

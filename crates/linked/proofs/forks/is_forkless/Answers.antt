@@ -8,10 +8,10 @@ use Rattle.claims.specs.Claims.{row}
 use Rattle.claims.specs.Meaning.{atom_of}
 use Rattle.claims.specs.Words.{AtomBelow}
 use Rattle.claims.specs.declared.parts.Atom.{Atom}
-use Rattle.models.proofs.Like.{start-below}
+use Rattle.models.proofs.Like.{start_below}
 use Rattle.linked.specs.Spare.{spare}
 use Rattle.linked.proofs.Begun.{begun_none, begun_skip, begun_more, begun_all, fork_nowhere, fork_two, code_out, code_empty}
-use Rattle.linked.proofs.FirstNumbers.{generic-holds}
+use Rattle.linked.proofs.FirstNumbers.{generic_holds}
 use Rattle.linked.proofs.forks.is_forkless.Goals as goal
 
 below : (atoms : List Atom) (i : ℕ) → i < length atoms → All (AtomBelow 64) (map atom_of atoms) → AtomBelow 64 (atom_of (get_or atoms i spare))
@@ -19,28 +19,28 @@ below atoms i h all =
     subst (AtomBelow 64) (get_or-map atom_of atoms i spare (row 0 0) h)
     (All-get_or (AtomBelow 64) (map atom_of atoms) i (row 0 0) (omega (arith, length-map atoms atom_of)) all)
 
-pub is-live-requires : goal.is-live-requires
-is-live-requires c = below c.args.atoms.now c.loop-atom.atom-index c.loop-atom-test.true c.requires
+pub is_live-requires : goal.is_live-requires
+is_live-requires c = below c.args.atoms.now c.loop-atom.atom-index c.loop-atom-test.true c.requires
 
 pub loop-atom-init : goal.loop-atom-init
 loop-atom-init c = begun_none c.args.known.now (map atom_of c.args.atoms.now) c.new-seen.result c.new-seen.ensures
 
-pub loop-atom-preserved-then-not-is-live : goal.loop-atom-preserved-then-not-is-live
-loop-atom-preserved-then-not-is-live c =
+pub loop-atom-preserved-then-not-is_live : goal.loop-atom-preserved-then-not-is_live
+loop-atom-preserved-then-not-is_live c =
     begun_skip c.args.known.now (map atom_of c.args.atoms.now) c.loop-atom.atom-index c.loop-atom.seen c.loop-atom.invariant
-    (code_empty c.args.known.now c.args.atoms.now c.loop-atom.atom-index c.loop-atom-test.true c.if-not-is-live.ensures)
+    (code_empty c.args.known.now c.args.atoms.now c.loop-atom.atom-index c.loop-atom-test.true c.if-not-is_live.ensures)
 
 pub find-start-requires : goal.find-start-requires
 find-start-requires c =
     let b = below c.args.atoms.now c.loop-atom.atom-index c.loop-atom-test.true c.requires in
-    omega (arith, c.begin.ensures, start-below (atom_of (get_or c.args.atoms.now c.loop-atom.atom-index spare)) b)
+    omega (arith, c.begin.ensures, start_below (atom_of (get_or c.args.atoms.now c.loop-atom.atom-index spare)) b)
 
 -- from here on the atom goes out from the name that was found
 pub returns-then-start-eq0 : goal.returns-then-start-eq0
 returns-then-start-eq0 c =
     let out =
     code_out c.args.known.now c.args.atoms.now c.loop-atom.atom-index c.loop-atom-test.true c.begin.result c.find-start.result
-    c.if-not-is-live.ensures c.begin.ensures c.find-start.ensures.stands in
+    c.if-not-is_live.ensures c.begin.ensures c.find-start.ensures.stands in
     record {
       exact = fork_nowhere c.args.known.now (map atom_of c.args.atoms.now) c.loop-atom.atom-index c.loop-atom.seen c.loop-atom.invariant c.find-start.result out c.if-start-eq0.true;
       generic = λ e. absurd (both_ways false refl e);
@@ -50,7 +50,7 @@ pub returns-then-has : goal.returns-then-has
 returns-then-has c =
     let out =
     code_out c.args.known.now c.args.atoms.now c.loop-atom.atom-index c.loop-atom-test.true c.begin.result c.find-start.result
-    c.if-not-is-live.ensures c.begin.ensures c.find-start.ensures.stands in
+    c.if-not-is_live.ensures c.begin.ensures c.find-start.ensures.stands in
     record {
       exact = fork_two c.args.known.now (map atom_of c.args.atoms.now) c.loop-atom.atom-index c.loop-atom.seen c.loop-atom.invariant c.find-start.result out c.if-has.ensures;
       generic = λ e. absurd (both_ways false refl e);
@@ -60,7 +60,7 @@ pub loop-atom-preserved : goal.loop-atom-preserved
 loop-atom-preserved c =
     let out =
     code_out c.args.known.now c.args.atoms.now c.loop-atom.atom-index c.loop-atom-test.true c.begin.result c.find-start.result
-    c.if-not-is-live.ensures c.begin.ensures c.find-start.ensures.stands in
+    c.if-not-is_live.ensures c.begin.ensures c.find-start.ensures.stands in
     begun_more c.args.known.now (map atom_of c.args.atoms.now) c.loop-atom.atom-index c.loop-atom.seen c.loop-atom.invariant c.find-start.result out
     c.if-start-eq0.false c.if-has.ensures c.with-seen.result c.with-seen.ensures
 
@@ -69,4 +69,4 @@ returns c =
     let none =
     begun_all c.args.known.now (map atom_of c.args.atoms.now) c.loop-atom.atom-index c.loop-atom.seen c.loop-atom.invariant
     (omega (arith, length-map c.args.atoms.now atom_of, c.loop-atom-test.false)) in
-    record { exact = none; generic = λ e. generic-holds c.args.known.now (map atom_of c.args.atoms.now) none }
+    record { exact = none; generic = λ e. generic_holds c.args.known.now (map atom_of c.args.atoms.now) none }

@@ -10,8 +10,8 @@ use Rattle.linked.proofs.forks.nothing_forks.Goals as goal
 pub loop-i-preserved : goal.loop-i-preserved
 loop-i-preserved c =
     below_more _ _ c.loop-i.invariant (
-      (λ e. c.if-stands-at-eq0.false (c.stands-at.ensures ∙ e)),
-      (λ j l h. c.if-forks-later.ensures refl j l (omega (arith, live-length c.args.live.now))),
+      (λ e. c.if-stands_at-eq0.false (c.stands_at.ensures ∙ e)),
+      (λ j l h. c.if-forks_later.ensures refl j l (omega (arith, live-length c.args.live.now))),
     )
 
 pub returns : goal.returns

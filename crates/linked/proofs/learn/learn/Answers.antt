@@ -1,10 +1,10 @@
 use Rattle.linked.proofs.learn.learn.Goals as goal
 
-pub returns-in-default : goal.returns-in-default
-returns-in-default c n m sm p d = c.in-default.ensures n (c.new.ensures n) p
+pub returns-in_default : goal.returns-in_default
+returns-in_default c n m sm p d = c.in_default.ensures n (c.new.ensures n) p
 
-pub returns-in-default-propagate : goal.returns-in-default-propagate
-returns-in-default-propagate c n m sm p d = c.in-default-propagate.ensures.propagated n m sm d ((c.in-Some.ensures n).1 (c.new.ensures n, p))
+pub returns-in_default-propagate : goal.returns-in_default-propagate
+returns-in_default-propagate c n m sm p d = c.in_default-propagate.ensures.propagated n m sm d ((c.in-Some.ensures n).1 (c.new.ensures n, p))
 
 pub returns : goal.returns
 returns c =

@@ -10,10 +10,10 @@ pub learn-requires : goal.learn-requires
 learn-requires c =
     let q = c.args.question.now in
     let f = c.requires.first_fits in
-    let p = c.as-slice.ensures.value in
-    let a = c.as-slice-2.ensures.value in
+    let p = c.as_slice.ensures.value in
+    let a = c.as_slice-2.ensures.value in
     record {
-      few = omega (arith, f.few-atoms, length-map c.as-slice-2.result.now atom_of, ap (λ u. length (map atom_of u)) a);
-      small-pures = subst (λ u. All (PureBelow 64) (map pure_of u)) (sym p) (pures_weaker q.names c.requires.few-names _ f.pures-below);
-      small-atoms = subst (λ u. All (AtomBelow 64) (map atom_of u)) (sym a) (atoms_weaker q.names c.requires.few-names _ f.atoms-below);
+      few = omega (arith, f.few_atoms, length-map c.as_slice-2.result.now atom_of, ap (λ u. length (map atom_of u)) a);
+      small_pures = subst (λ u. All (PureBelow 64) (map pure_of u)) (sym p) (pures_weaker q.names c.requires.few_names _ f.pures_below);
+      small_atoms = subst (λ u. All (AtomBelow 64) (map atom_of u)) (sym a) (atoms_weaker q.names c.requires.few_names _ f.atoms_below);
     }

@@ -9,7 +9,7 @@ use Rattle.linked.specs.Knowing.{Agrees}
 use Rattle.linked.specs.Living.{Settled}
 use Rattle.linked.specs.declared.known.Known.{Known}
 use Rattle.linked.proofs.Knowledge.{to_root}
-use Rattle.linked.proofs.AtomLists.{cell-alike, row-alike}
+use Rattle.linked.proofs.AtomLists.{cell_alike, row_alike}
 use Rattle.linked.proofs.living.settled.Goals as goal
 
 found : (k : Known) (x r : ℕ) → x < 64 → r ≡ root k.stands x → (n : Names) → Agrees k n → at n x ≡ at n r
@@ -25,10 +25,10 @@ returns-in-Cell c =
     (λ h.
     record {
       start_small = c.find.ensures.below;
-      end-small = c.find-in-Cell.ensures.below;
+      end_small = c.find-in-Cell.ensures.below;
       alike =
           λ n g.
-          cell-alike n c.in-Cell.x.0 c.in-Cell.y.0 a b (found k c.in-Cell.x.0 a h.0 c.find.ensures.stands n g) (found k c.in-Cell.y.0 b h.1 c.find-in-Cell.ensures.stands n g);
+          cell_alike n c.in-Cell.x.0 c.in-Cell.y.0 a b (found k c.in-Cell.x.0 a h.0 c.find.ensures.stands n g) (found k c.in-Cell.y.0 b h.1 c.find-in-Cell.ensures.stands n g);
     })
     c.requires
 
@@ -42,9 +42,9 @@ returns-in-Row c =
     (λ h.
     record {
       start_small = c.find-in-Row.ensures.below;
-      end-small = c.find-in-Row-2.ensures.below;
+      end_small = c.find-in-Row-2.ensures.below;
       alike =
           λ n g.
-          row-alike n c.in-Row.x.0 c.in-Row.y.0 a b (found k c.in-Row.x.0 a h.0 c.find-in-Row.ensures.stands n g) (found k c.in-Row.y.0 b h.1 c.find-in-Row-2.ensures.stands n g);
+          row_alike n c.in-Row.x.0 c.in-Row.y.0 a b (found k c.in-Row.x.0 a h.0 c.find-in-Row.ensures.stands n g) (found k c.in-Row.y.0 b h.1 c.find-in-Row-2.ensures.stands n g);
     })
     c.requires

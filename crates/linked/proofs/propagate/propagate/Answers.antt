@@ -4,12 +4,12 @@ use Rattle.linked.specs.Living.{atoms_of}
 use Rattle.linked.proofs.Learning.{learns_more, learns_none}
 use Rattle.linked.proofs.propagate.propagate.Goals as goal
 
-pub returns-in-default : goal.returns-in-default
-returns-in-default c =
+pub returns-in_default : goal.returns-in_default
+returns-in_default c =
     record {
       propagated =
           learns_none (map atom_of c.args.atoms.now) (atoms_of c.of-live.result) c.args.known c.again.known
-          c.again.invariant.0 c.of-live.ensures.lives c.in-default.ensures.propagated;
+          c.again.invariant.0 c.of-live.ensures.lives c.in_default.ensures.propagated;
       no_more = tt;
     }
 

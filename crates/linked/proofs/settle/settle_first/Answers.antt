@@ -7,20 +7,20 @@ use Rattle.linked.specs.Generics.{Fork, HoldsGeneric}
 use Rattle.linked.proofs.Below.{atoms_weaker}
 use Rattle.linked.proofs.settle.settle_first.Goals as goal
 
-pub is-forkless-requires : goal.is-forkless-requires
-is-forkless-requires c =
-    subst (λ u. All (AtomBelow 64) (map atom_of u)) (sym c.as-slice.ensures.value)
-    (atoms_weaker c.args.question.now.names c.requires.few-names _ c.requires.first_fits.atoms-below)
+pub is_forkless-requires : goal.is_forkless-requires
+is_forkless-requires c =
+    subst (λ u. All (AtomBelow 64) (map atom_of u)) (sym c.as_slice.ensures.value)
+    (atoms_weaker c.args.question.now.names c.requires.few_names _ c.requires.first_fits.atoms_below)
 
-pub returns-then-is-forkless : goal.returns-then-is-forkless
-returns-then-is-forkless c =
+pub returns-then-is_forkless : goal.returns-then-is_forkless
+returns-then-is_forkless c =
     let learnt = c.in-Some.ensures in
     let f = c.requires.first_fits in
     let P : List Atom → Type 0 = λ u. HoldsGeneric c.in-Some.known (map atom_of u) in
-    let generic = subst P c.as-slice.ensures.value (c.if-is-forkless.ensures.generic refl) in
-    (learnt, generic c.args.question.now.names _ c.requires.few-names f.pures-below f.atoms-below learnt.back)
+    let generic = subst P c.as_slice.ensures.value (c.if-is_forkless.ensures.generic refl) in
+    (learnt, generic c.args.question.now.names _ c.requires.few_names f.pures_below f.atoms_below learnt.back)
 
 pub returns : goal.returns
 returns c =
     let P : List Atom → Type 0 = λ u. Fork c.in-Some.known (map atom_of u) in
-    (c.in-Some.ensures, subst P c.as-slice.ensures.value c.if-is-forkless.ensures.exact)
+    (c.in-Some.ensures, subst P c.as_slice.ensures.value c.if-is_forkless.ensures.exact)

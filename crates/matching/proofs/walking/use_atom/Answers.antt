@@ -28,13 +28,13 @@ returns-in-Some c =
     subst P (sym c.in-Cell.is) (made_cell (subst (λ (a : ClaimAtom). Put a (free c.args.own v ls) (free c.args.own c.args.used ls)) found.is put))
 
 -- a row that is made is used
-row-used : (k : Known) (ls : List ClaimAtom) (own s t : ℕ) (u : Used) (r : Option Used) → RowUsed k ls own s t u r → AtomUsed k ls own (row s t) u r
-row-used k ls own s t u (Some v) made = made_row made
-row-used k ls own s t u None made = tt
+row_used : (k : Known) (ls : List ClaimAtom) (own s t : ℕ) (u : Used) (r : Option Used) → RowUsed k ls own s t u r → AtomUsed k ls own (row s t) u r
+row_used k ls own s t u (Some v) made = made_row made
+row_used k ls own s t u None made = tt
 
 pub returns-in-Row : goal.returns-in-Row
 returns-in-Row c =
     let k = c.args.known.now in
     let ls = atoms_of c.args.live.now in
-    let P : Atom → Type 0 = λ a. AtomUsed k ls c.args.own (atom_of a) c.args.used c.use-row.result in
-    subst P (sym c.in-Row.is) (row-used k ls c.args.own c.in-Row.x.0 c.in-Row.y.0 c.args.used c.use-row.result c.use-row.ensures)
+    let P : Atom → Type 0 = λ a. AtomUsed k ls c.args.own (atom_of a) c.args.used c.use_row.result in
+    subst P (sym c.in-Row.is) (row_used k ls c.args.own c.in-Row.x.0 c.in-Row.y.0 c.args.used c.use_row.result c.use_row.ensures)

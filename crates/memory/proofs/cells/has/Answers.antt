@@ -1,5 +1,5 @@
 use Rattle.std.proofs.Common.{refl, arith}
-use Rattle.memory.proofs.Placing.{here_found, here_more, here-none}
+use Rattle.memory.proofs.Placing.{here_found, here_more, here_none}
 use Rattle.memory.proofs.cells.has.Goals as goal
 
 pub loop-i-init : goal.loop-i-init
@@ -14,4 +14,4 @@ loop-i-preserved c =
     here_more c.args.memory.now c.loop-i.i c.args.place c.loop-i.invariant c.loop-i-test.true c.if-memory-i.false
 
 pub returns : goal.returns
-returns c = here-none c.args.memory.now c.loop-i.i c.args.place c.loop-i.invariant (omega arith)
+returns c = here_none c.args.memory.now c.loop-i.i c.args.place c.loop-i.invariant (omega arith)

@@ -2,8 +2,8 @@ use Rattle.std.proofs.Common.{get_or, sym, refl, ◌∙◌, arith}
 use Rattle.memory.proofs.Asking.{no_whole_claim, claim_and_more, claim_alone}
 use Rattle.memory.proofs.checks.whole_claim.Goals as goal
 
-pub returns-in-default : goal.returns-in-default
-returns-in-default c = no_whole_claim c.args.words.now c.in-default.ensures.decodes
+pub returns-in_default : goal.returns-in_default
+returns-in_default c = no_whole_claim c.args.words.now c.in_default.ensures.decodes
 
 pub returns-then-claim-len : goal.returns-then-claim-len
 returns-then-claim-len c =

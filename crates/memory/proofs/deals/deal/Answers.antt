@@ -3,7 +3,7 @@ use Rattle.claims.specs.Meaning.{atom_of}
 use Rattle.memory.specs.Judging.{Deals}
 use Rattle.memory.specs.Marks.{memory_of, rest_of}
 use Rattle.memory.proofs.Dealing.{deals_none}
-use Rattle.memory.proofs.Judgement.{atom_taken, atom_stuck, atoms-taken}
+use Rattle.memory.proofs.Judgement.{atom_taken, atom_stuck, atoms_taken}
 use Rattle.memory.proofs.Marking.{unmarked_clear}
 use Rattle.memory.proofs.deals.deal.Goals as goal
 
@@ -21,9 +21,9 @@ returns-in-Err c =
 pub loop-i-preserved : goal.loop-i-preserved
 loop-i-preserved c =
     let s = c.args.memory.now in
-    atom_taken c.args.names.now (memory_of s) c.args.atoms.now c.loop-i.i (rest_of s c.loop-i.marks) c.loop-i.invariant (rest_of s c.take.new.marks) c.loop-i-test.true c.in-default.ensures
+    atom_taken c.args.names.now (memory_of s) c.args.atoms.now c.loop-i.i (rest_of s c.loop-i.marks) c.loop-i.invariant (rest_of s c.take.new.marks) c.loop-i-test.true c.in_default.ensures
 
 pub returns : goal.returns
 returns c =
     let s = c.args.memory.now in
-    atoms-taken c.args.names.now (memory_of s) c.args.atoms.now c.loop-i.i (rest_of s c.loop-i.marks) c.loop-i.invariant (omega arith)
+    atoms_taken c.args.names.now (memory_of s) c.args.atoms.now c.loop-i.i (rest_of s c.loop-i.marks) c.loop-i.invariant (omega arith)

@@ -4,7 +4,7 @@ use Rattle.memory_notation.proofs.answers.judge.Goals as goal
 pub returns-in-Holds : goal.returns-in-Holds
 returns-in-Holds c = (
   _,
-  told _ _ _ _ _ _ _ _ _ _ c.check-checked.ensures c.as-slice.ensures.value c.as-slice-2.ensures.value c.as-slice-3.ensures.value c.in-Holds.is,
+  told _ _ _ _ _ _ _ _ _ _ c.check-checked.ensures c.as_slice.ensures.value c.as_slice-2.ensures.value c.as_slice-3.ensures.value c.in-Holds.is,
 )
 
 pub returns-in-Fails : goal.returns-in-Fails
@@ -12,6 +12,6 @@ returns-in-Fails c = (
   c.in-Fails.why,
   (
     _,
-    told _ _ _ _ _ _ _ _ _ _ c.check-checked.ensures c.as-slice.ensures.value c.as-slice-2.ensures.value c.as-slice-3.ensures.value c.in-Fails.is,
+    told _ _ _ _ _ _ _ _ _ _ c.check-checked.ensures c.as_slice.ensures.value c.as_slice-2.ensures.value c.as_slice-3.ensures.value c.in-Fails.is,
   ),
 )

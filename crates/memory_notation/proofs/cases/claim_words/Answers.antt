@@ -19,6 +19,6 @@ overflow-add-most-2 c =
 pub returns : goal.returns
 returns c =
     let k = c.args.question.now.first in
-    cut_claim (question_of c.args.question.now) _ _ _ _ c.requires c.in-ok-words.ensures
+    cut_claim (question_of c.args.question.now) _ _ _ _ c.requires c.in_ok-words.ensures
     (length-map (vec_items k.pures) pure_of ∙ sym k.pures.ok.0 ∙ sym c.len.ensures)
     (length-map (vec_items k.atoms) atom_of ∙ sym k.atoms.ok.0 ∙ sym c.len-2.ensures) c.truncate.ensures.items

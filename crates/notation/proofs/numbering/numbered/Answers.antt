@@ -5,6 +5,6 @@ use Rattle.notation.proofs.numbering.numbered.Goals as goal
 pub returns : goal.returns
 returns c =
     let table = c.claim-2.new.self in
-    both_accepted _ _ _ _ c.in-ok-table.ensures.one c.len.ensures table.few table.names.ok.0
-    (c.claim-2.ensures.same ∙ c.claim.ensures.same ∙ c.in-ok-table.ensures.same) table.nowhere table.distinct
-    c.in-ok-first.ensures.order c.in-ok-second.ensures.order
+    both_accepted _ _ _ _ c.in_ok-table.ensures.one c.len.ensures table.few table.names.ok.0
+    (c.claim-2.ensures.same ∙ c.claim.ensures.same ∙ c.in_ok-table.ensures.same) table.nowhere table.distinct
+    c.in_ok-first.ensures.order c.in_ok-second.ensures.order

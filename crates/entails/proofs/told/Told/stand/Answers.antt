@@ -6,7 +6,7 @@ pub loop-x-preserved : goal.loop-x-preserved
 loop-x-preserved c =
     below_more _ _
     (λ k h. let ne : k ≢ c.loop-x.x = omega arith in rw get_or-set_other (c.loop-x.invariant k h))
-    (let lt : c.loop-x.x < length c.loop-x.self.names = omega arith in rw get_or-set_same (c.place-of-place.ensures.root, c.place-of-place.ensures.below))
+    (let lt : c.loop-x.x < length c.loop-x.self.names = omega arith in rw get_or-set_same (c.place_of-place.ensures.root, c.place_of-place.ensures.below))
 
 pub returns : goal.returns
 returns c =

@@ -23,12 +23,12 @@ loop-atom-preserved c = (
       (lives_push c.args.known.now _ _ _ _ c.loop-atom.invariant.1 c.settled-settled.ensures),
 )
 
-pub loop-atom-preserved-then-is-empty : goal.loop-atom-preserved-then-is-empty
-loop-atom-preserved-then-is-empty c = (
+pub loop-atom-preserved-then-is_empty : goal.loop-atom-preserved-then-is_empty
+loop-atom-preserved-then-is_empty c = (
   omega arith,
   subst (λ u. Lives c.args.known.now u (map atom_of (take c.loop-atom.live.count c.loop-atom.live.atoms)))
       (sym (map_more atom_of c.args.atoms.now c.loop-atom.atom-index _ c.loop-atom-test.true))
-      (lives_skip c.args.known.now _ _ _ _ c.loop-atom.invariant.1 c.settled-settled.ensures (c.if-is-empty.ensures refl)),
+      (lives_skip c.args.known.now _ _ _ _ c.loop-atom.invariant.1 c.settled-settled.ensures (c.if-is_empty.ensures refl)),
 )
 
 pub returns : goal.returns

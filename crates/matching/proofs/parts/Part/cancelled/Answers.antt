@@ -29,8 +29,8 @@ loop-i-preserved c =
           c.loop-i.invariant.1 c.in-Some.more made,
     )
 
-pub loop-i-preserved-in-default : goal.loop-i-preserved-in-default
-loop-i-preserved-in-default c =
+pub loop-i-preserved-in_default : goal.loop-i-preserved-in_default
+loop-i-preserved-in_default c =
     let k = c.args.known.now in
     let p = c.args.self.now in
     let a = atom_of c.get-atom.result in (

@@ -10,8 +10,8 @@ loop-draft-init c = (in-order-none atom_names atom_of _ c.new-atoms.ensures.item
 
 pub loop-draft-preserved : goal.loop-draft-preserved
 loop-draft-preserved c =
-    let pushed = chosen _ _ _ _ c.push.ensures.items (ap is_ok c.in-ok-push.was) in (
-      in-order-push atom_names atom_of _ _ _ pushed c.loop-draft.invariant.0 c.in-ok-atom.ensures.order,
-      omega (arith, chosen _ _ _ _ c.push.ensures.len (ap is_ok c.in-ok-push.was), c.loop-draft.invariant.1),
+    let pushed = chosen _ _ _ _ c.push.ensures.items (ap is_ok c.in_ok-push.was) in (
+      in-order-push atom_names atom_of _ _ _ pushed c.loop-draft.invariant.0 c.in_ok-atom.ensures.order,
+      omega (arith, chosen _ _ _ _ c.push.ensures.len (ap is_ok c.in_ok-push.was), c.loop-draft.invariant.1),
       c.atom.ensures.same ∙ c.loop-draft.invariant.2,
     )

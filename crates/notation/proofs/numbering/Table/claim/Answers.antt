@@ -5,12 +5,12 @@ use Rattle.notation.proofs.numbering.Table.claim.Goals as goal
 
 pub returns : goal.returns
 returns c =
-    let pures = c.in-ok-pures.ensures.order in
-    let atoms = c.in-ok-atoms.ensures.order in
+    let pures = c.in_ok-pures.ensures.order in
+    let atoms = c.in_ok-atoms.ensures.order in
     record {
       same = c.atoms.ensures.same ∙ c.pures.ensures.same;
       order =
           claim_numbered pure_of atom_of _ _ pures.0 atoms.0
-          (omega (arith, c.in-ok-pures.pures.ok.0, pures.1, c.as-slice.ensures.len, c.args.draft.now.few_pures))
-          (omega (arith, c.in-ok-atoms.atoms.ok.0, atoms.1, c.as-slice-2.ensures.len, c.args.draft.now.few_atoms));
+          (omega (arith, c.in_ok-pures.pures.ok.0, pures.1, c.as_slice.ensures.len, c.args.draft.now.few_pures))
+          (omega (arith, c.in_ok-atoms.atoms.ok.0, atoms.1, c.as_slice-2.ensures.len, c.args.draft.now.few_atoms));
     }

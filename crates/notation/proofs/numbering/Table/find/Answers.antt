@@ -1,6 +1,6 @@
 use Rattle.std.proofs.Common.{rules, below_more}
 use Rattle.std.proofs.lemmas.Slice.Eq.{slice_eq-Decides}
-use Rattle.notation.proofs.Spelled.{found_here, not-here, nowhere-there}
+use Rattle.notation.proofs.Spelled.{found_here, not_here, nowhere_there}
 use Rattle.notation.proofs.numbering.Table.find.Goals as goal
 use Rattle.std.proofs.lemmas.Bool.Decides.{Decides-eqb}
 
@@ -13,10 +13,10 @@ returns-then-eq c = record {
 pub loop-i-preserved : goal.loop-i-preserved
 loop-i-preserved c =
     below_more _ _ c.loop-i.invariant
-    (not-here _ _ _ c.deref-name-items.ensures.value _ _ _ _ _ c.loop-i-test.true c.of.ensures (slice_eq-Decides Decides-eqb _ _ _ c.eq.ensures) c.if-eq.false)
+    (not_here _ _ _ c.deref-name-items.ensures.value _ _ _ _ _ c.loop-i-test.true c.of.ensures (slice_eq-Decides Decides-eqb _ _ _ c.eq.ensures) c.if-eq.false)
 
 pub returns : goal.returns
 returns c = record {
   within = search rules;
-  found = nowhere-there _ _ _ c.deref-name-items.ensures.value _ _ c.loop-i-test.false c.loop-i.invariant;
+  found = nowhere_there _ _ _ c.deref-name-items.ensures.value _ _ c.loop-i-test.false c.loop-i.invariant;
 }

@@ -1,14 +1,14 @@
 use Rattle.std.proofs.Common.{◌≤◌, length, is_ok, vec_items, sym, refl, ap, ◌∙◌, arith, rules}
 use Rattle.std.proofs.ResultArms.{chosen}
 use Rattle.notation.specs.Spelling.{mention_spelling}
-use Rattle.notation.proofs.Numbered.{one_known, one-new}
-use Rattle.notation.proofs.Spelled.{no_bytes, first-kept, distinct-kept, last_spelled}
+use Rattle.notation.proofs.Numbered.{one_known, one_new}
+use Rattle.notation.proofs.Spelled.{no_bytes, first_kept, distinct_kept, last_spelled}
 use Rattle.notation.proofs.numbering.Table.number.Goals as goal
 
-pub returns-in-default : goal.returns-in-default
-returns-in-default c = record {
+pub returns-in_default : goal.returns-in_default
+returns-in_default c = record {
   same = refl;
-  spelled = no_bytes _ c.args.self.now.nowhere ∙ sym (ap (mention_spelling c.args.self.now.text.now) c.in-default.is);
+  spelled = no_bytes _ c.args.self.now.nowhere ∙ sym (ap (mention_spelling c.args.self.now.text.now) c.in_default.is);
   order = one_known (search rules);
 }
 
@@ -28,8 +28,8 @@ invariant-of-self c =
       (
         search rules,
         (
-          first-kept _ _ _ _ _ added some table.nowhere,
-          (distinct-kept _ _ _ _ _ added table.distinct (λ k lt e. c.in-default-find.ensures.found k lt (e ∙ sym c.of-spelled.ensures)), tt),
+          first_kept _ _ _ _ _ added some table.nowhere,
+          (distinct_kept _ _ _ _ _ added table.distinct (λ k lt e. c.in_default-find.ensures.found k lt (e ∙ sym c.of-spelled.ensures)), tt),
         ),
       ),
     )
@@ -37,11 +37,11 @@ invariant-of-self c =
 pub returns : goal.returns
 returns c =
     let table = c.args.self.now in
-    let added = chosen _ _ _ _ c.push.ensures.items (ap is_ok c.in-ok-push.was) in
+    let added = chosen _ _ _ _ c.push.ensures.items (ap is_ok c.in_ok-push.was) in
     record {
       same = refl;
       spelled =
           last_spelled _ _ _ _ _ added (omega (arith, c.len-count.ensures, table.names.ok.0)) ∙
           sym (ap (mention_spelling table.text.now) c.in-Name.is);
-      order = one-new (search rules) (search rules);
+      order = one_new (search rules) (search rules);
     }

@@ -5,5 +5,5 @@ use Rattle.notation.proofs.numbering.Table.pair.Goals as goal
 pub returns : goal.returns
 returns c = record {
   same = c.number-2.ensures.same ∙ c.number.ensures.same;
-  order = in-order-append c.in-ok-x.ensures.order c.in-ok-y.ensures.order;
+  order = in-order-append c.in_ok-x.ensures.order c.in_ok-y.ensures.order;
 }

@@ -10,8 +10,8 @@ loop-draft-init c = (in-order-none pure_names pure_of _ c.new-pures.ensures.item
 
 pub loop-draft-preserved : goal.loop-draft-preserved
 loop-draft-preserved c =
-    let pushed = chosen _ _ _ _ c.push.ensures.items (ap is_ok c.in-ok-push.was) in (
-      in-order-push pure_names pure_of _ _ _ pushed c.loop-draft.invariant.0 c.in-ok-pure.ensures.order,
-      omega (arith, chosen _ _ _ _ c.push.ensures.len (ap is_ok c.in-ok-push.was), c.loop-draft.invariant.1),
+    let pushed = chosen _ _ _ _ c.push.ensures.items (ap is_ok c.in_ok-push.was) in (
+      in-order-push pure_names pure_of _ _ _ pushed c.loop-draft.invariant.0 c.in_ok-pure.ensures.order,
+      omega (arith, chosen _ _ _ _ c.push.ensures.len (ap is_ok c.in_ok-push.was), c.loop-draft.invariant.1),
       c.pure.ensures.same ∙ c.loop-draft.invariant.2,
     )
