@@ -37,17 +37,17 @@ pub record Room (t w : List ℕ) : Type 0 where
   pub small : length t / 2 ≤ 16384
 
 -- there are more cells than the call can do
-pub record TooLarge (t w : List ℕ) : Type 0 where
+pub record IsTooLarge (t w : List ℕ) : Type 0 where
   pub enough : length t / 2 ≤ length w
   pub many : 16384 < length t / 2
 
 -- the words s are no claim
-pub record NoClaim (s t w : List ℕ) : Type 0 where
+pub record IsNoClaim (s t w : List ℕ) : Type 0 where
   pub room : Room t w
   pub none : (k : ℕ) (c : Claim) → IsClaim s k c → ⊥
 
 -- the words s are a claim, but the words t are no sound memory, or there is not a word for each name
-pub record NoMemory (s n t w : List ℕ) : Type 0 where
+pub record IsNoMemory (s n t w : List ℕ) : Type 0 where
   pub room : Room t w
   pub names : ℕ
   pub claim : Claim
@@ -66,9 +66,9 @@ pub record Asked (s n t w : List ℕ) (P : Memory → Claim → Type 0) : Type 0
 -- what each answer says: s are the words of the claim, n of the names, t of the memory, and w is lent
 abbrev pub Answer : List ℕ → List ℕ → List ℕ → List ℕ → Checked → Type 0
 Answer s n t w Few = length w < length t / 2
-Answer s n t w TooLarge = TooLarge t w
-Answer s n t w NoClaim = NoClaim s t w
-Answer s n t w NoMemory = NoMemory s n t w
+Answer s n t w TooLarge = IsTooLarge t w
+Answer s n t w NoClaim = IsNoClaim s t w
+Answer s n t w NoMemory = IsNoMemory s n t w
 Answer s n t w Holds = Asked s n t w (λ m c. Says n m c)
 Answer s n t w (Fails why) = Asked s n t w (λ m c. FailsFor n m c why)
 

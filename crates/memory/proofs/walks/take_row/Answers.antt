@@ -1,4 +1,5 @@
-use Rattle.std.proofs.Common.{rules}
+use Rattle.std.proofs.Common.{rules, sym, ◌∙◌}
+use Rattle.std.proofs.lemmas.Bool.{eqb-true, not-false}
 use Rattle.memory.specs.Marks.{rest_of}
 use Rattle.memory.proofs.Marking.{sound_rest}
 use Rattle.memory.proofs.Walking.{walked_start, walked_step, walked_end, walked_stuck, one_fewer}
@@ -19,4 +20,6 @@ steps-preserved c =
     walked_step c.steps.invariant (sound_rest c.args.memory.now c.steps.marks c.requires.sound) (search rules) c.in-Some.ensures.1
 
 pub returns : goal.returns
-returns c = walked_end c.steps.invariant (search rules)
+returns c =
+    walked_end c.steps.invariant
+    (eqb-true c.steps.place.0 c.args.to.0 (not-false _ (sym c.ne.ensures ∙ c.steps-test.false)))

@@ -19,20 +19,17 @@ returns-in-Some c = record {
   order = one_known c.in-Some.ensures.within;
 }
 
-pub invariant-of-self : goal.invariant-of-self
-invariant-of-self c =
+pub invariant_of-self : goal.invariant_of-self
+invariant_of-self c =
     let table = c.args.self.now in
     let added = c.push.ensures.items in
-    let some : 1 ≤ length (vec_items table.names) = omega (arith, table.some, table.names.ok.0) in (
-      search rules,
-      (
-        search rules,
-        (
-          first_kept _ _ _ _ _ added some table.nowhere,
-          (distinct_kept _ _ _ _ _ added table.distinct (λ k lt e. c.in_default-find.ensures.found k lt (e ∙ sym c.of-spelled.ensures)), tt),
-        ),
-      ),
-    )
+    let some : 1 ≤ length (vec_items table.names) = omega (arith, table.some, table.names.ok.0) in
+    record {
+      some = search rules;
+      few = search rules;
+      nowhere = first_kept _ _ _ _ _ added some table.nowhere;
+      distinct = distinct_kept _ _ _ _ _ added table.distinct (λ k lt e. c.in_default-find.ensures.found k lt (e ∙ sym c.of-spelled.ensures));
+    }
 
 pub returns : goal.returns
 returns c =
