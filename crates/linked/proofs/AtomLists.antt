@@ -1,7 +1,7 @@
 -- Lists of atoms one behind the other, and lists that say the same of every memory.
-use Rattle.std.proofs.Common.{◌≡◌, ℕ, ◌↔◌, List, [], ◌∷◌, ◌++◌, sym, refl, ap, ◌∙◌, subst, subst₂}
+use Rattle.std.proofs.Common.{◌≡◌, ℕ, ◌↔◌, List, [], ◌∷◌, ◌++◌, sym, subst, subst₂}
 use Rattle.claims.specs.Claims.{Atom, cell, row}
-use Rattle.claims.specs.Memory.{Names, at, Memory, IsRow, Parts, none_p, left_p, right_p, AtomHolds, Dealt, no_more, one_more}
+use Rattle.claims.specs.Memory.{Names, at, Memory, IsRow, Parts, AtomHolds, Dealt, no_more, one_more}
 use Rattle.linked.specs.Living.{Settled, Lives}
 use Rattle.linked.specs.declared.known.Known.{Known}
 use Rattle.memory.specs.Owners.{Empty}

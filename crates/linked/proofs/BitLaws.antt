@@ -1,8 +1,8 @@
--- Bits of numbers: of a union (`bit_or`) and of a single one (`bit_pow`).
-use Rattle.std.proofs.Common.{◌≡◌, ℕ, zero, suc, ◌+◌, ◌-◌, ◌*◌, ◌/◌, ◌%◌, ◌^◌, ◌<◌, ◌≤◌, Bool, true, false, ◌||◌, eqb, ◌≢◌, ◌⊎◌, sym, refl, ap, ◌∙◌, subst, ap₂, inl, inr, ⊎_elim, mul_comm, one-mul, pow-suc, arith, eq-eqb, ne_eqb}
+-- Bits of numbers: of a union (`bit-bit_or`) and of a single one (`bit_pow`).
+use Rattle.std.proofs.Common.{◌≡◌, ℕ, zero, suc, ◌+◌, ◌-◌, ◌*◌, ◌/◌, ◌%◌, ◌^◌, ◌<◌, false, ◌||◌, eqb, sym, refl, ap, ◌∙◌, subst, ⊎_elim, mul_comm, one-mul, pow-suc, arith, eq-eqb, ne_eqb}
 use native.Mathlib.Nat.{zero-div, mul-mod_left, div-eq_of_lt}
 use lib.Bits.{bit_and, bit_or, and_mask, or_shr, or_mod}
-use Rattle.std.proofs.lemmas.Nat.{pow_pos, pow-add, mod_below, shl-shr, one_shl, pow_below}
+use Rattle.std.proofs.lemmas.Nat.{pow-add, mod_below, shl-shr, one_shl, pow_below}
 use Rattle.std.proofs.lemmas.Bool.{cases_eq, cases_lt}
 use Rattle.linked.specs.Bits.{bit}
 
@@ -19,8 +19,8 @@ or_last zero (suc (suc y)) h k = absurd (omega arith)
 or_last (suc zero) (suc (suc y)) h k = absurd (omega arith)
 or_last (suc (suc x)) y h k = absurd (omega arith)
 
-pub bit_or : (a b j : ℕ) → bit (bit_or a b) j ≡ (bit a j || bit b j)
-bit_or a b j =
+pub bit-bit_or : (a b j : ℕ) → bit (bit_or a b) j ≡ (bit a j || bit b j)
+bit-bit_or a b j =
     ap (λ n. eqb (n % 2) 1) (or_shr a b j) ∙ ap (λ n. eqb n 1) (or_mod (a / 2 ^ j) (b / 2 ^ j) 1) ∙
     or_last (a / 2 ^ j % 2) (b / 2 ^ j % 2) (mod_below (a / 2 ^ j) 2 (omega arith)) (mod_below (b / 2 ^ j) 2 (omega arith))
 
@@ -51,7 +51,7 @@ bit_pow k j =
 -- one more bit, of a number of w bits
 pub bit_with : (s k w j : ℕ) → k < w → bit (bit_or s (1 * 2 ^ k % 2 ^ w)) j ≡ (bit s j || eqb j k)
 bit_with s k w j h =
-    bit_or s (1 * 2 ^ k % 2 ^ w) j ∙ ap (λ n. bit s j || bit n j) (one_shl k w h) ∙ ap (λ b. bit s j || b) (bit_pow k j)
+    bit-bit_or s (1 * 2 ^ k % 2 ^ w) j ∙ ap (λ n. bit s j || bit n j) (one_shl k w h) ∙ ap (λ b. bit s j || b) (bit_pow k j)
 
 pub bit-none : (k : ℕ) → bit 0 k ≡ false
 bit-none k = ap (λ n. eqb (n % 2) 1) (zero-div (2 ^ k))

@@ -1,10 +1,10 @@
 -- Othernesses carried over from one name to another: the rows first, and then the name's own row.
-use Rattle.std.proofs.Common.{◌≡◌, ℕ, ◌<◌, Bool, true, false, ◌||◌, ◌⊎◌, List, length, get_or, set, sym, refl, ap, ◌∙◌, subst, inl, inr, ⊎_elim, arith, length-set}
+use Rattle.std.proofs.Common.{◌≡◌, ℕ, ◌<◌, Bool, true, false, ◌||◌, ◌⊎◌, List, get_or, set, sym, refl, ap, ◌∙◌, subst, inl, inr, ⊎_elim, arith, length-set}
 use Rattle.std.proofs.lemmas.List.{get_or-set_same, get_or-set_other}
 use Rattle.std.proofs.lemmas.Bool.{cases_eq}
-use Rattle.claims.specs.Memory.{Names, at}
+use Rattle.claims.specs.Memory.{at}
 use Rattle.linked.specs.Bits.{has}
-use Rattle.linked.specs.Stands.{none, Marked, Apart, Columned, Carried, Came, old, by_column, by_row, by_both}
+use Rattle.linked.specs.Stands.{none, Marked, Columned, Carried, Came, old, by_column, by_row, by_both}
 use Rattle.linked.specs.declared.bits.NameSet.{NameSet}
 
 pub or_left : (p q : Bool) → p ≡ true → (p || q) ≡ true

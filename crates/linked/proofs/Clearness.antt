@@ -1,6 +1,6 @@
 -- Knowledge stays clear: no class of names is marked other than itself, since what is marked is marked of the
 -- representatives too, and these are never joined when they are marked.
-use Rattle.std.proofs.Common.{◌≡◌, ℕ, ◌<◌, Bool, true, false, ◌⊎◌, List, length, get_or, set, sym, refl, ap, ◌∙◌, subst, subst₂, inl, inr, ⊎_elim, arith}
+use Rattle.std.proofs.Common.{◌≡◌, ℕ, ◌<◌, Bool, true, false, List, length, get_or, set, sym, refl, ap, ◌∙◌, subst, subst₂, ⊎_elim, arith}
 use borrow.Author.Tests.{both_ways}
 use Rattle.std.proofs.lemmas.Bool.{cases_eq}
 use Rattle.linked.specs.Stands.{Falls, root, Marked, Closed, Clear, Loose, Mixed, Came, old, by_column, by_row, by_both, Carried, Added}

@@ -1,6 +1,6 @@
 -- Each name at the number of the one that stands for it: these names agree with what is known (`first_numbers_agree`), and where
 -- nothing forks, a claim holds of them and their generic memory (`generic_holds`).
-use Rattle.std.proofs.Common.{◌≡◌, ℕ, zero, suc, ◌<◌, ◌≤◌, true, not, List, length, get_or, sym, refl, ap, ◌∙◌, subst, zero-add, arith, eq-eqb}
+use Rattle.std.proofs.Common.{◌≡◌, ℕ, zero, suc, ◌<◌, ◌≤◌, true, not, List, [], length, get_or, sym, refl, ap, ◌∙◌, subst, zero-add, arith, eq-eqb}
 use Rattle.std.specs.List.{AllByRecursion as All}
 use Rattle.std.proofs.lemmas.List.FromFn.{get_or-map-range_with_len}
 use Rattle.std.proofs.ByRecursion.{All-get_or}
@@ -11,13 +11,14 @@ use Rattle.claims.specs.Memory.{at}
 use Rattle.claims.specs.Words.{AtomBelow}
 use Rattle.memory.specs.Owners.{start, Empty}
 use Rattle.memory.proofs.Alike.{Alike, pures_alike}
-use Rattle.models.specs.Generic.{ForkFree}
+use Rattle.models.specs.Generic.{ForkFree, generic}
 use Rattle.models.proofs.Generic.{generic_dealt}
 use Rattle.models.proofs.Forks.{fork_free_sound}
 use Rattle.models.proofs.Like.{start_below}
 use Rattle.linked.specs.Stands.{root}
 use Rattle.linked.specs.Knowing.{Agrees}
-use Rattle.linked.specs.Generics.{live, GoesOut, Fork, two, from_nowhere, first_numbers, GenericHolds}
+use Rattle.linked.specs.Forking.{numbers, SettledMemory}
+use Rattle.linked.specs.Generics.{live, GoesOut, Fork, two, from_nowhere, first_numbers, Generic, GenericHolds}
 use Rattle.linked.specs.declared.known.Known.{Known}
 use Rattle.linked.proofs.Roots.{root_below}
 use Rattle.linked.proofs.Leading.{root-up}
@@ -86,3 +87,9 @@ generic_holds k cs none m ps few small below meets =
       agrees = first_numbers_agree k;
       only_known = λ x y hx hy e. eq-eqb (root k.stands x) (root k.stands y) (roots_one m k few x y hx hy e);
     }
+
+-- with all 64 names, and of the atoms alone
+pub generic_settled : (k : Known) (cs : List Atom) → All (AtomBelow 64) cs → (Fork k cs → ⊥) → SettledMemory k cs
+generic_settled k cs below none =
+    let g : Generic 64 k (record { pures = []; atoms = cs }) = generic_holds k cs none 64 [] (omega arith) tt below (λ n a. tt) in
+    record { memory = generic (numbers k) cs; sound_m = g.is_sound; dealt = g.says.atoms; agrees = g.agrees; only_known = g.only_known }

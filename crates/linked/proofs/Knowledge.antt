@@ -1,11 +1,11 @@
 -- What knowledge of names says of the names that agree with it.
-use Rattle.std.proofs.Common.{◌≡◌, ℕ, ◌<◌, Bool, true, false, ◌||◌, eqb, ◌⊎◌, ◌↔◌, List, [], length, get_or, set, Some, None, sym, refl, ap, ◌∙◌, subst, subst₂, inl, inr, ⊎_elim, arith, length-set, eq-eqb, eqb-true}
+use Rattle.std.proofs.Common.{◌≡◌, ℕ, ◌<◌, true, ◌||◌, eqb, ◌⊎◌, ◌↔◌, List, [], length, get_or, set, Some, sym, refl, ap, ◌∙◌, subst, subst₂, inl, inr, ⊎_elim, arith, length-set, eq-eqb, eqb-true}
 use Rattle.std.proofs.lemmas.List.{get_or-set_same, get_or-set_other}
 use Rattle.std.proofs.lemmas.Bool.{cases_eq}
 use Rattle.claims.specs.Memory.{Names, at}
 use Rattle.linked.specs.Bits.{has}
-use Rattle.linked.specs.Stands.{Falls, root, none, SameAs, Marked, Apart, Added}
-use Rattle.linked.specs.Knowing.{Agrees, known_same, known_other, Joined, Parted}
+use Rattle.linked.specs.Stands.{root, none, SameAs, Marked, Apart, Added}
+use Rattle.linked.specs.Knowing.{Agrees, known_other, Joined, Parted}
 use Rattle.linked.specs.declared.known.Known.{Known}
 use Rattle.linked.specs.declared.bits.NameSet.{NameSet}
 use Rattle.linked.proofs.Roots.{root_same, root_below}

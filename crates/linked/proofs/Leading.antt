@@ -1,9 +1,9 @@
 -- The way up as a relation, and how it changes when a name is put below another (`root-join`).
-use Rattle.std.proofs.Common.{◌≡◌, ℕ, zero, suc, ◌<◌, ◌≤◌, ◌⊎◌, List, length, get_or, set, sym, refl, ap, ◌∙◌, subst, inl, inr, ⊎_elim, eq-or-lt_of_le, arith}
+use Rattle.std.proofs.Common.{◌≡◌, ℕ, zero, suc, ◌<◌, List, length, get_or, set, sym, refl, ap, ◌∙◌, subst, ⊎_elim, eq-or-lt_of_le, arith}
 use Rattle.std.proofs.lemmas.List.{get_or-set_same, get_or-set_other}
 use Rattle.std.proofs.lemmas.Bool.{cases_eq}
 use Rattle.linked.specs.Stands.{Falls, up, root}
-use Rattle.linked.proofs.Roots.{up_stays, root_below, root_stays, join_falls}
+use Rattle.linked.proofs.Roots.{up_stays, root_stays, join_falls}
 
 -- the way up from the first name ends at the second
 data Leads (s : List ℕ) : ℕ → ℕ → Type 0 where

@@ -1,16 +1,15 @@
 -- Each name at the number of the one that stands for it: these names agree with what is known (`numbers_agree`).
-use Rattle.std.proofs.Common.{◌≡◌, ℕ, zero, suc, ◌<◌, true, List, map, length, get_or, sym, refl, ap, ◌∙◌, zero-add, arith, eq-eqb}
-use Rattle.std.specs.List.{range_with_len}
+use Rattle.std.proofs.Common.{◌≡◌, ℕ, zero, suc, ◌<◌, List, length, get_or, sym, ap, ◌∙◌, zero-add, arith, eq-eqb}
 use Rattle.std.proofs.lemmas.List.FromFn.{get_or-map-range_with_len}
 use Rattle.claims.specs.Claims.{Atom, row}
-use Rattle.claims.specs.Memory.{Names, at}
+use Rattle.claims.specs.Memory.{at}
 use Rattle.memory.specs.Owners.{start}
 use Rattle.std.proofs.lemmas.List.{get_or_default}
-use Rattle.models.specs.Generic.{ForkFree, generic}
+use Rattle.models.specs.Generic.{ForkFree}
 use Rattle.models.proofs.Generic.{generic_dealt}
 use Rattle.models.proofs.Forks.{fork_free_sound}
 use Rattle.linked.specs.Stands.{root}
-use Rattle.linked.specs.Knowing.{Agrees, known_same}
+use Rattle.linked.specs.Knowing.{Agrees}
 use Rattle.linked.specs.Forking.{numbers, HasGeneric, begin_of, ApartSoFar}
 use Rattle.linked.specs.declared.known.Known.{Known}
 use Rattle.linked.proofs.Roots.{root_below}

@@ -1,15 +1,14 @@
 -- What is reached from a name without an atom: one more name over one more row (`reach_more`); and from what is reached,
 -- that the place is none of the atom's cells (`barred-..`).
-use Rattle.std.proofs.Common.{◌≡◌, ℕ, ◌<◌, ◌≤◌, Bool, true, false, ◌||◌, T, eqb, ◌⊎◌, List, map, length, get_or, take, sym, refl, ap, ◌∙◌, subst, ⊎_elim, arith, length-take, eqb-true}
+use Rattle.std.proofs.Common.{◌≡◌, ℕ, ◌<◌, true, ◌||◌, T, eqb, ◌⊎◌, List, length, get_or, take, sym, ap, ◌∙◌, subst, ⊎_elim, arith, length-take, eqb-true}
 use lib.ListN.{length-map}
 use Rattle.std.proofs.lemmas.List.{get_or-map, get_or-take}
 use borrow.Author.Tests.{both_ways}
 use Rattle.claims.specs.Claims.{Atom, cell, row}
 use Rattle.claims.specs.Memory.{Names, at, Memory, here, sound, Dealt}
 use Rattle.claims.specs.Meaning.{atom_of}
-use Rattle.claims.specs.declared.parts.Atom.{Atom as CodeAtom}
 use Rattle.memory.specs.Owners.{Owns, Passes, Empty, start}
-use Rattle.memory.proofs.Dealt.{one_owner, owner, owns_place, owns_dealt}
+use Rattle.memory.proofs.Dealt.{one_owner, owner, owns_place}
 use Rattle.memory.proofs.Parts.{sound_nowhere}
 use Rattle.linked.specs.Bits.{bit}
 use Rattle.linked.specs.Stands.{Marked}

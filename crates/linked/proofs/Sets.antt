@@ -1,10 +1,10 @@
 -- Sets of names: what is in the empty set, in one with one more name, in a union.
-use Rattle.std.proofs.Common.{◌≡◌, ℕ, ◌-◌, ◌<◌, ◌≤◌, Bool, true, false, cond, ◌||◌, eqb, ltb, sym, refl, ap, ◌∙◌, ap₂, ⊎_elim, arith, le-ltb, lt-ltb, eq-eqb, ne_eqb}
+use Rattle.std.proofs.Common.{◌≡◌, ℕ, ◌-◌, ◌<◌, ◌≤◌, Bool, true, false, cond, ◌||◌, eqb, sym, refl, ap, ◌∙◌, ap₂, ⊎_elim, arith, le-ltb, lt-ltb, eq-eqb, ne_eqb}
 use lib.Bits.{bit_or}
 use Rattle.std.proofs.lemmas.Bool.{cases_lt, cases_eq}
 use Rattle.linked.specs.Bits.{bit, has}
 use Rattle.linked.specs.declared.bits.NameSet.{NameSet}
-use Rattle.linked.proofs.BitLaws.{bit_or, bit-none}
+use Rattle.linked.proofs.BitLaws.{bit-bit_or, bit-none}
 
 pub has_low : (s : NameSet) (x : ℕ) → x < 32 → has s x ≡ bit s.low x
 unfolding has
@@ -27,8 +27,8 @@ pub has_union :
     (s t : NameSet) (x : ℕ) → has (record { low = bit_or s.low t.low; high = bit_or s.high t.high }) x ≡ (has s x || has t x)
 has_union s t =
     by_words (λ x b. b ≡ (has s x || has t x)) (record { low = bit_or s.low t.low; high = bit_or s.high t.high })
-    (λ x a. bit_or s.low t.low x ∙ sym (ap₂ (λ u v. u || v) (has_low s x a) (has_low t x a)))
-    (λ x a. bit_or s.high t.high (x - 32) ∙ sym (ap₂ (λ u v. u || v) (has_high s x a) (has_high t x a)))
+    (λ x a. bit-bit_or s.low t.low x ∙ sym (ap₂ (λ u v. u || v) (has_low s x a) (has_low t x a)))
+    (λ x a. bit-bit_or s.high t.high (x - 32) ∙ sym (ap₂ (λ u v. u || v) (has_high s x a) (has_high t x a)))
 
 or_false : (b : Bool) → (b || false) ≡ b
 or_false true = refl

@@ -1,14 +1,12 @@
 -- Fewer pairs of names are undecided when two are joined (`join_closer`) or parted (`part_closer`): what was decided stays
 -- so, and these two are decided then (`fewer_pairs`).
-use Rattle.std.proofs.Common.{◌≡◌, ℕ, zero, suc, ◌+◌, ◌*◌, ◌/◌, ◌%◌, ◌<◌, ◌≤◌, Bool, true, false, cond, not, ◌&&◌, ◌||◌, eqb, ◌⊎◌, List, length, get_or, set, sym, refl, ap, ◌∙◌, subst, ap₂, subst₂, inl, inr, ⊎_elim, arith, eq-eqb, ne_eqb, eqb-true}
+use Rattle.std.proofs.Common.{◌≡◌, ℕ, zero, suc, ◌+◌, ◌*◌, ◌/◌, ◌%◌, ◌<◌, ◌≤◌, Bool, true, false, cond, not, ◌&&◌, get_or, set, sym, refl, ap, ◌∙◌, subst, ap₂, subst₂, ⊎_elim, arith, eq-eqb, ne_eqb}
 use borrow.Author.Tests.{eqb-false, both_ways}
-use Rattle.std.proofs.lemmas.List.{get_or-set_same, get_or-set_other}
 use Rattle.std.proofs.lemmas.Bool.{cases_eq, cases_Bool}
 use Rattle.linked.specs.Bits.{has}
-use Rattle.linked.specs.Stands.{Falls, root, none, Marked, Carried, Added}
+use Rattle.linked.specs.Stands.{root, none, Marked, Carried, Added}
 use Rattle.linked.specs.Knowing.{known_same, known_other, undecided, undecided_of, open_pairs, Closer}
 use Rattle.linked.specs.declared.known.Known.{Known}
-use Rattle.linked.specs.declared.bits.NameSet.{NameSet}
 use Rattle.linked.proofs.Roots.{root_below}
 use Rattle.linked.proofs.Leading.{root_same_as_before, root_now_a}
 use Rattle.linked.proofs.Carrying.{or_cases, or_left, or_right}

@@ -1,5 +1,5 @@
 -- Sets of names as bits.
-use Rattle.std.specs.Prelude.{ℕ, ◌-◌, ◌/◌, ◌%◌, ◌^◌, Bool, true, false, cond, ◌==◌, nat_lt}
+use Rattle.std.specs.Prelude.{ℕ, ◌-◌, ◌/◌, ◌%◌, ◌^◌, Bool, cond, ◌==◌, nat_lt}
 use Rattle.linked.specs.declared.bits.NameSet.{NameSet}
 
 -- bit k of the number w is 1

@@ -1,5 +1,5 @@
 -- The atoms of a claim that are not known to be empty, by the names that stand for their ends.
-use Rattle.std.specs.Prelude.{ℕ, ◌<◌, ◌↔◌, List, map, take}
+use Rattle.std.specs.Prelude.{◌<◌, ◌↔◌, List, map, take}
 use Rattle.claims.specs.Claims.{Atom}
 use Rattle.memory.specs.Owners.{start, end}
 use Rattle.claims.specs.Memory.{Names, Memory, AtomHolds, Dealt}

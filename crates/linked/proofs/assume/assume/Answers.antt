@@ -1,4 +1,4 @@
-use Rattle.std.proofs.Common.{◌≡◌, map, take, Some, sym, ap, ◌∙◌, subst, arith}
+use Rattle.std.proofs.Common.{map, take, Some, sym, ◌∙◌, subst, arith}
 use lib.ListN.{length-map}
 use Rattle.std.proofs.lemmas.List.{map_more, get_or-map, take-map, take_all}
 use Rattle.std.proofs.ByRecursion.{All-get_or}

@@ -1,4 +1,4 @@
-use Rattle.std.proofs.Common.{sym, arith}
+use Rattle.std.proofs.Common.{sym}
 use Rattle.linked.specs.Living.{atoms_of}
 use Rattle.linked.proofs.Reach.{barred_other}
 use Rattle.linked.proofs.barring.other_than.Goals as goal

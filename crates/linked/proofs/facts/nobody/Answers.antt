@@ -1,4 +1,4 @@
-use Rattle.std.proofs.Common.{◌≡◌, sym, refl, ap, ◌∙◌}
+use Rattle.std.proofs.Common.{refl, ap, ◌∙◌}
 use lib.ListN.{get_or-replicate}
 use borrow.Author.Tests.{both_ways}
 use Rattle.linked.specs.Bits.{has}

@@ -11,7 +11,7 @@ use Rattle.claims.specs.declared.parts.Atom.{Atom}
 use Rattle.models.proofs.Like.{start_below}
 use Rattle.linked.specs.Spare.{spare}
 use Rattle.linked.proofs.Begun.{begun_none, begun_skip, begun_more, begun_all, fork_nowhere, fork_two, code_out, code_empty}
-use Rattle.linked.proofs.FirstNumbers.{generic_holds}
+use Rattle.linked.proofs.FirstNumbers.{generic_holds, generic_settled}
 use Rattle.linked.proofs.forks.is_forkless.Goals as goal
 
 below : (atoms : List Atom) (i : ℕ) → i < length atoms → All (AtomBelow 64) (map atom_of atoms) → AtomBelow 64 (atom_of (get_or atoms i spare))
@@ -43,6 +43,7 @@ returns-then-start-eq0 c =
     c.if-not-is_live.ensures c.begin.ensures c.find-start.ensures.stands in
     record {
       exact = fork_nowhere c.args.known.now (map atom_of c.args.atoms.now) c.loop-atom.atom-index c.loop-atom.seen c.loop-atom.invariant c.find-start.result out c.if-start-eq0.true;
+      settled = λ e. absurd (both_ways false refl e);
       generic = λ e. absurd (both_ways false refl e);
     }
 
@@ -53,6 +54,7 @@ returns-then-has c =
     c.if-not-is_live.ensures c.begin.ensures c.find-start.ensures.stands in
     record {
       exact = fork_two c.args.known.now (map atom_of c.args.atoms.now) c.loop-atom.atom-index c.loop-atom.seen c.loop-atom.invariant c.find-start.result out c.if-has.ensures;
+      settled = λ e. absurd (both_ways false refl e);
       generic = λ e. absurd (both_ways false refl e);
     }
 
@@ -69,4 +71,8 @@ returns c =
     let none =
     begun_all c.args.known.now (map atom_of c.args.atoms.now) c.loop-atom.atom-index c.loop-atom.seen c.loop-atom.invariant
     (omega (arith, length-map c.args.atoms.now atom_of, c.loop-atom-test.false)) in
-    record { exact = none; generic = λ e. generic_holds c.args.known.now (map atom_of c.args.atoms.now) none }
+    record {
+      exact = none;
+      settled = λ e. generic_settled c.args.known.now (map atom_of c.args.atoms.now) c.requires none;
+      generic = λ e. generic_holds c.args.known.now (map atom_of c.args.atoms.now) none;
+    }

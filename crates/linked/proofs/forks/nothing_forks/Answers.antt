@@ -1,7 +1,6 @@
-use Rattle.std.proofs.Common.{◌≡◌, ℕ, ◌<◌, length, sym, refl, ◌∙◌, subst, arith, below_more}
+use Rattle.std.proofs.Common.{◌<◌, sym, refl, ◌∙◌, subst, arith, below_more}
 use Rattle.claims.specs.Claims.{row}
 use Rattle.memory.specs.Owners.{start}
-use Rattle.linked.specs.Forking.{begin_of, ApartSoFar}
 use Rattle.linked.specs.Living.{atoms_of}
 use Rattle.linked.proofs.Reach.{live-length, live_at}
 use Rattle.linked.proofs.Numbers.{has-generic, fork_free}

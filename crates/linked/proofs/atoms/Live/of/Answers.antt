@@ -1,4 +1,4 @@
-use Rattle.std.proofs.Common.{◌≡◌, map, take, sym, refl, ap, ◌∙◌, subst, subst₂, arith}
+use Rattle.std.proofs.Common.{map, take, sym, refl, ap, ◌∙◌, subst, subst₂, arith}
 use lib.ListN.{length-map}
 use Rattle.std.proofs.lemmas.List.{map_more, map_push, get_or-map, take_all}
 use Rattle.std.proofs.ByRecursion.{All-get_or}

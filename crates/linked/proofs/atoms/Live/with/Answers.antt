@@ -1,4 +1,4 @@
-use Rattle.std.proofs.Common.{◌≡◌, ℕ, ◌+◌, ◌<◌, List, length, get_or, set, sym, refl, ◌∙◌, subst, arith, length-set, below_more}
+use Rattle.std.proofs.Common.{ℕ, ◌+◌, ◌<◌, List, length, get_or, set, sym, refl, ◌∙◌, subst, arith, length-set, below_more}
 use Rattle.std.proofs.lemmas.List.{take_more_set, get_or-set_same, get_or-set_other}
 use Rattle.claims.specs.Meaning.{atom_of}
 use Rattle.memory.specs.Owners.{start, end}
@@ -14,22 +14,16 @@ each_more P xs i a d h all one =
     (λ j l. subst P (sym (get_or-set_other xs i j a d (λ e. omega arith))) (all j l))
     (subst P (sym (get_or-set_same xs i a d h)) one)
 
-pub invariant-of-result : goal.invariant-of-result
-invariant-of-result c =
+pub invariant_of-result : goal.invariant_of-result
+invariant_of-result c =
     let l = c.args.self in
-    let h : l.count < length l.atoms = omega (arith, l.full) in (
-      length-set l.atoms l.count c.args.atom ∙ l.full,
-      (
-        omega arith,
-        (
-          each_more (λ x. start (atom_of x) < 64) l.atoms l.count c.args.atom spare h l.starts c.requires.start,
-          (
-            each_more (λ x. end (atom_of x) < 64) l.atoms l.count c.args.atom spare h l.ends c.requires.end,
-            tt,
-          ),
-        ),
-      ),
-    )
+    let h : l.count < length l.atoms = omega (arith, l.full) in
+    record {
+      full = length-set l.atoms l.count c.args.atom ∙ l.full;
+      few = omega arith;
+      starts = each_more (λ x. start (atom_of x) < 64) l.atoms l.count c.args.atom spare h l.starts c.requires.start;
+      ends = each_more (λ x. end (atom_of x) < 64) l.atoms l.count c.args.atom spare h l.ends c.requires.end;
+    }
 
 pub returns : goal.returns
 returns c =

@@ -1,4 +1,4 @@
-use Rattle.std.proofs.Common.{◌≡◌, true, sym, ◌∙◌, arith}
+use Rattle.std.proofs.Common.{◌≡◌, sym, ◌∙◌, arith}
 use borrow.Author.Tests.{both_ways}
 use Rattle.linked.proofs.Knowledge.{same_known, other_known, join_roots, join_swapped}
 use Rattle.linked.proofs.Undecided.{fewer_pairs, none_more_pairs, decided_same}
@@ -13,8 +13,8 @@ returns-then-other c =
       no_more = tt;
     }
 
-pub returns-then-a_b : goal.returns-then-a_b
-returns-then-a_b c =
+pub returns-then-a-b : goal.returns-then-a-b
+returns-then-a-b c =
     let k = c.args.self.now in
     let j = c.put_below.result in
     let p = c.put_below.ensures in
@@ -28,11 +28,11 @@ returns-then-a_b c =
       no_more = none_more_pairs k j p.closer;
     }
 
-pub returns-then-b_a : goal.returns-then-b_a
-returns-then-b_a c =
+pub returns-then-b-a : goal.returns-then-b-a
+returns-then-b-a c =
     let k = c.args.self.now in
-    let j = c.put_below-then-b_a.result in
-    let p = c.put_below-then-b_a.ensures in
+    let j = c.put_below-then-b-a.result in
+    let p = c.put_below-then-b-a.ensures in
     record {
       joined =
           join_roots k c.args.x c.args.y c.requires.x_small c.requires.y_small j c.find-a.result c.find-b.result c.find-a.ensures.stands c.find-b.ensures.stands
@@ -44,8 +44,8 @@ returns-then-b_a c =
       no_more = none_more_pairs k j p.closer;
     }
 
-pub returns-else-b_a : goal.returns-else-b_a
-returns-else-b_a c =
+pub returns-else-b-a : goal.returns-else-b-a
+returns-else-b-a c =
     let k = c.args.self.now in
     let e : c.find-a.result ≡ c.find-b.result = omega arith in
     let r = sym c.find-a.ensures.stands ∙ e ∙ c.find-b.ensures.stands in

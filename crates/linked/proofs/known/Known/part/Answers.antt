@@ -3,12 +3,12 @@ use Rattle.linked.proofs.Knowledge.{same_known, part_roots, part_made}
 use Rattle.linked.proofs.Undecided.{part_fewer}
 use Rattle.linked.proofs.known.Known.part.Goals as goal
 
-pub returns-then-a_b : goal.returns-then-a_b
-returns-then-a_b c =
+pub returns-then-a-b : goal.returns-then-a-b
+returns-then-a-b c =
     record {
       parted =
           λ n g d.
-          d (same_known c.args.self.now c.args.x c.args.y c.requires.x_small c.requires.y_small n g (sym c.find-a.ensures.stands ∙ c.if-a_b.true ∙ c.find-b.ensures.stands));
+          d (same_known c.args.self.now c.args.x c.args.y c.requires.x_small c.requires.y_small n g (sym c.find-a.ensures.stands ∙ c.if-a-b.true ∙ c.find-b.ensures.stands));
       fewer = tt;
     }
 

@@ -5,28 +5,20 @@ use Rattle.linked.proofs.Undecided.{join_closer, now_a, still_a}
 use Rattle.linked.proofs.Clearness.{closed_of, clear_of, carried_closed, carried_clear, not_loose, not_mixed}
 use Rattle.linked.proofs.known.Known.put_below.Goals as goal
 
-pub invariant-of-result : goal.invariant-of-result
-invariant-of-result c =
+pub invariant_of-result : goal.invariant_of-result
+invariant_of-result c =
     let k = c.args.self.now in
     let a = c.args.a in
     let b = c.args.b in
     let p = c.carry-others.result in
-    let s = set k.stands b a in (
-      length-set k.stands b a ∙ k.all,
-      (
-        c.carry-others.ensures.full,
-        (
-          join_falls k.stands a b k.all k.falls c.requires.lower c.requires.small,
-          (
-            not_loose s p (carried_closed k.stands k.others p a b k.all k.falls c.requires.lower c.requires.small c.requires.a_itself c.requires.b_itself c.requires.a_b c.requires.b_a (closed_of k) (clear_of k) c.carry-others.ensures),
-            (
-              not_mixed s p (carried_clear k.stands k.others p a b k.all k.falls c.requires.lower c.requires.small c.requires.a_itself c.requires.b_itself c.requires.a_b c.requires.b_a (closed_of k) (clear_of k) c.carry-others.ensures),
-              tt,
-            ),
-          ),
-        ),
-      ),
-    )
+    let s = set k.stands b a in
+    record {
+      all = length-set k.stands b a ∙ k.all;
+      rows = c.carry-others.ensures.full;
+      falls = join_falls k.stands a b k.all k.falls c.requires.lower c.requires.small;
+      closed = not_loose s p (carried_closed k.stands k.others p a b k.all k.falls c.requires.lower c.requires.small c.requires.a_itself c.requires.b_itself c.requires.a_b c.requires.b_a (closed_of k) (clear_of k) c.carry-others.ensures);
+      clear = not_mixed s p (carried_clear k.stands k.others p a b k.all k.falls c.requires.lower c.requires.small c.requires.a_itself c.requires.b_itself c.requires.a_b c.requires.b_a (closed_of k) (clear_of k) c.carry-others.ensures);
+    }
 
 pub returns : goal.returns
 returns c =
