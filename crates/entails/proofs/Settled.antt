@@ -31,7 +31,7 @@ pub goal_settled :
     (g : Goal) (k : Known) (p : Part) (t : Told) (r : Outcome) → Limits (question_of g) →
     ((n : Names) → All (PureHolds n) (first_of g).pures → Agrees k n) → Whole g k p → Searched g k p t r → GoalSettled g t r
 goal_settled g k p t Settled limits all whole closed = λ n m s says.
-    all_settled g.names (first_of g) (second_of g) limits.few_names (second_pures g limits) k (renamed whole.own_val whole.wanted closed) n m s (all n says.pures) says
+    all_settled g.names (first_of g) (second_of g) limits.few_names (second_pures g limits) k (renamed whole.own whole.wanted closed) n m s (all n says.pures) says
 goal_settled g k p t Refuted limits all whole against = against
 
 -- what the rules settle follows

@@ -13,8 +13,8 @@ returns-then-left-eq0-2 c =
     let k = c.args.known.now in
     let p = c.args.part.now in
     let first = renamed_left g k p c.renamed-renamed.result c.requires.part_of c.renamed-renamed.ensures in
-    let left = cancelled_left g k p c.renamed-renamed.result first c.cancelled_left.result c.cancelled_left.ensures in
-    none_left g k p c.cancelled_left.result left c.if-left-eq0.true c.if-left-eq0-2.true (c.if-not-pures_match.ensures refl)
+    let left = cancelled_left g k p c.renamed-renamed.result first c.cancelled-left.result c.cancelled-left.ensures in
+    none_left g k p c.cancelled-left.result left c.if-left-eq0.true c.if-left-eq0-2.true (c.if-not-pures_match.ensures refl)
 
 pub returns-in_default : goal.returns-in_default
 returns-in_default c =
@@ -22,7 +22,7 @@ returns-in_default c =
     let k = c.args.known.now in
     let p = c.args.part.now in
     let first = renamed_left g k p c.renamed-renamed.result c.requires.part_of c.renamed-renamed.ensures in
-    cancelled_left g k p c.renamed-renamed.result first c.cancelled_left.result c.cancelled_left.ensures
+    cancelled_left g k p c.renamed-renamed.result first c.cancelled-left.result c.cancelled-left.ensures
 
 pub returns : goal.returns
 returns c =
@@ -30,5 +30,5 @@ returns c =
     let k = c.args.known.now in
     let p = c.args.part.now in
     let first = renamed_left g k p c.renamed-renamed.result c.requires.part_of c.renamed-renamed.ensures in
-    let left = cancelled_left g k p c.renamed-renamed.result first c.cancelled_left.result c.cancelled_left.ensures in
-    two_left g k p c.cancelled_left.result left c.in-Some.parts.0 c.in-Some.parts.1 c.in-Some.ensures
+    let left = cancelled_left g k p c.renamed-renamed.result first c.cancelled-left.result c.cancelled-left.ensures in
+    two_left g k p c.cancelled-left.result left c.in-Some.parts.0 c.in-Some.parts.1 c.in-Some.ensures
