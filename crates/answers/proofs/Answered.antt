@@ -2,7 +2,7 @@
 --
 -- does_follow; shown and refuting: the two answers. never_full, never_none, never_few: the others do not come.
 -- no_memory: where no memory was to be had, nothing is promised.
-use Rattle.std.proofs.Common.{◌≡◌, ℕ, ◌+◌, ◌*◌, ◌≤◌, true, List, ◌++◌, length, take, drop, is_err, IfOk, Ok, Err, vec_items, Result, sym, refl, ap, ◌∙◌, subst, arith}
+use Rattle.std.proofs.Common.{◌≡◌, ℕ, ◌+◌, ◌*◌, ◌≤◌, true, List, ◌++◌, length, take, drop, is_err, IfOk, Ok, Err, vec_items, Result, sym, ap, ◌∙◌, subst, arith}
 use Rattle.std.specs.List.{between}
 use Rattle.std.proofs.lemmas.List.{take-take, take_at, drop_at}
 use Rattle.std.proofs.lemmas.Slice.{between_is}

@@ -1,10 +1,10 @@
 -- The words of a claim and of a question: they tell which it is (`claim_one`, `one_question`), where its parts stand
 -- (`claim_stands`), and that words in which they stand so are a claim (`claim_made`).
 use Rattle.std.proofs.Common.{◌≡◌, ℕ, ◌+◌, ◌-◌, ◌*◌, ◌≤◌, List, [], ◌∷◌, ◌++◌, length, get_or, take, drop, sym, refl, ap, ◌∙◌, subst, ap₂, arith, length-append, length-drop, take-append-drop, length-take}
-use Rattle.std.specs.List.{flat_map, AllByRecursion as All}
+use Rattle.std.specs.List.{flat_map}
 use Rattle.std.proofs.lemmas.List.{append_assoc, take_at, drop_at, drop-drop, take_rest, nil_from_length, append-nil}
 use Rattle.claims.specs.Claims.{Pure, Atom, Claim, Question}
-use Rattle.claims.specs.Words.{pure_words, atom_words, claim_words, words, PureBelow, AtomBelow, Fits, Limits, Reads, OneQuestion}
+use Rattle.claims.specs.Words.{pure_words, atom_words, claim_words, words, Reads, OneQuestion}
 use Rattle.claims.proofs.PartWords.{length_pure, length_atom, pure_one, atom_one}
 use Rattle.claims.proofs.Threes.{length_threes, threes_one}
 

@@ -1,9 +1,9 @@
 -- The definitions at work: a memory of two cells, its parts, what names are in it, an empty row, and a question as words.
-use Rattle.std.proofs.Common.{◌≡◌, ℕ, Bool, true, false, T, List, [], ◌∷◌, ◌++◌, refl, arith}
+use Rattle.std.proofs.Common.{◌≡◌, T, [], ◌∷◌, refl, arith}
 use Rattle.std.specs.List.{AllByRecursion as All}
-use Rattle.claims.specs.Claims.{Pure, same, other, Atom, cell, row, Claim, Question}
-use Rattle.claims.specs.Words.{words, Fits, Limits, Reads}
-use Rattle.claims.specs.Memory.{Names, Cell, Memory, sound, Parts, none_p, left_p, right_p, IsRow, no_cells, some_cells, PureHolds, Dealt, no_more, one_more, Says}
+use Rattle.claims.specs.Claims.{same, other, cell, row, Question}
+use Rattle.claims.specs.Words.{words, Reads}
+use Rattle.claims.specs.Memory.{Names, Memory, sound, Parts, none_p, left_p, right_p, IsRow, no_cells, some_cells, PureHolds, no_more, one_more, Says}
 
 -- 1 leads to 2, and 2 nowhere
 abbrev pub two_cells : Memory

@@ -1,5 +1,5 @@
 -- The words of one part: there are three, and they tell the part.
-use Rattle.std.proofs.Common.{◌≡◌, ℕ, List, [], ◌∷◌, length, refl, arith}
+use Rattle.std.proofs.Common.{◌≡◌, ℕ, length, refl, arith}
 use Rattle.claims.specs.Claims.{Pure, same, other, Atom, cell, row}
 use Rattle.claims.specs.Words.{pure_words, atom_words}
 

@@ -2,7 +2,7 @@
 --
 -- f gives the three words of a part, and P says which parts are meant. `threes_more`, `threes_stop`, `threes_all` and
 -- `threes_rest` are the ways of a loop that reads one part after the other; `threes_one` says that the words tell the parts.
-use Rattle.std.proofs.Common.{◌≡◌, ℕ, zero, suc, ◌+◌, ◌-◌, ◌*◌, ◌/◌, ◌%◌, ◌<◌, ◌≤◌, List, [], ◌∷◌, ◌++◌, map, length, get_or, take, drop, sym, refl, ap, ◌∙◌, subst, ap₂, arith, length-append, take-add}
+use Rattle.std.proofs.Common.{◌≡◌, ℕ, zero, suc, ◌+◌, ◌-◌, ◌*◌, ◌/◌, ◌%◌, ◌<◌, List, [], ◌∷◌, ◌++◌, map, length, get_or, take, drop, sym, refl, ap, ◌∙◌, ap₂, arith, length-append, take-add}
 use lib.Seq.{drop-append-add}
 use Rattle.std.specs.List.{flat_map, AllByRecursion as All}
 use Rattle.std.proofs.lemmas.List.{take_at, drop_at, append_assoc, flat_map_more, map_more, take_all, take_rest}

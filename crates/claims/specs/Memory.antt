@@ -1,5 +1,5 @@
 -- What a claim says of names and a memory.
-use Rattle.std.specs.Prelude.{◌≡◌, ℕ, zero, suc, Bool, true, false, not, ◌&&◌, ◌||◌, T, List, [], ◌∷◌, ◌==◌, ◌≢◌, slice_index}
+use Rattle.std.specs.Prelude.{◌≡◌, ℕ, zero, suc, Bool, true, false, not, ◌&&◌, ◌||◌, List, [], ◌∷◌, ◌==◌, ◌≢◌, slice_index}
 use Rattle.std.specs.List.{AllByRecursion as All}
 use Rattle.claims.specs.Claims.{Pure, same, other, Atom, cell, row, Claim}
 

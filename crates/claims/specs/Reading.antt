@@ -1,5 +1,5 @@
 -- What reading promises.
-use Rattle.std.specs.Prelude.{◌≡◌, ℕ, ◌+◌, ◌*◌, Bool, true, false, List, ◌++◌, length, take, Some, None, Option, ◌≢◌}
+use Rattle.std.specs.Prelude.{◌≡◌, ℕ, Bool, true, false, List, ◌++◌, length, take, Some, None, Option, ◌≢◌}
 use Rattle.std.specs.List.{flat_map, AllByRecursion as All}
 use Rattle.claims.specs.Claims as claims
 use Rattle.claims.specs.Words.{pure_words, atom_words, claim_words, PureBelow, AtomBelow, Fits, Reads, OneQuestion}

@@ -3,10 +3,10 @@
 -- at-take, names_alike: as many names as there are mean the same as all that are written.
 -- tried_one: a memory that was written down and judged.
 -- told_length: how many cells are told; told_against: what is against it is so with just as many names as there are.
-use Rattle.std.proofs.Common.{◌≡◌, ℕ, zero, suc, ◌*◌, ◌<◌, ◌≤◌, Bool, true, false, List, length, get_or, take, sym, refl, ap, ◌∙◌, subst, subst₂, arith}
+use Rattle.std.proofs.Common.{◌≡◌, ℕ, zero, suc, ◌*◌, ◌≤◌, Bool, true, false, length, take, sym, refl, ap, subst₂, arith}
 use Rattle.std.proofs.lemmas.List.{get_or-take, length-take-le}
 use Rattle.claims.specs.Words.{Limits}
-use Rattle.claims.specs.Memory.{Names, at, Memory}
+use Rattle.claims.specs.Memory.{Names, Memory}
 use Rattle.memory.proofs.Alike.{Alike, alike_sym, says_alike}
 use Rattle.memory.proofs.Marking.{length_memory}
 use Rattle.models.specs.Follows.{enough}

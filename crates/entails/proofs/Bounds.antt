@@ -1,8 +1,6 @@
 -- A question's names are below 64, and its atoms are few.
-use Rattle.std.proofs.Common.{◌≡◌, ℕ, ◌-◌, ◌≤◌, List, map, length, take, sym, subst, arith, length-take}
 use Rattle.std.specs.List.{AllByRecursion as All}
 use Rattle.claims.specs.Words.{PureBelow, AtomBelow, Limits}
-use Rattle.claims.specs.Meaning.{pure_of, atom_of}
 use Rattle.linked.proofs.Below.{pures_weaker, atoms_weaker}
 use Rattle.entails.specs.Telling.{first_of, second_of, question_of}
 use Rattle.entails.specs.declared.goals.Goal.{Goal}

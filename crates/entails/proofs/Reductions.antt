@@ -2,7 +2,7 @@
 --
 -- renamed_left, cancelled_left: one part is left; none_left: nothing is; two_left: two parts are.
 -- drawn_from, part_later: what is drawn from all atoms of a part, and the part where more is known.
-use Rattle.std.proofs.Common.{◌≡◌, ℕ, List, [], Some, None, Option, sym, refl, subst, subst₂, arith}
+use Rattle.std.proofs.Common.{◌≡◌, ℕ, List, Some, None, Option, sym, refl, subst, subst₂, arith}
 use Rattle.std.specs.List.{AllByRecursion as All}
 use Rattle.claims.specs.Claims.{Atom}
 use Rattle.claims.specs.Memory.{Names}
@@ -11,7 +11,7 @@ use Rattle.linked.specs.Living.{Lives}
 use Rattle.linked.specs.Propagating.{Propagated}
 use Rattle.linked.specs.declared.known.Known.{Known}
 use Rattle.matching.specs.Rules.{PureKnown, Closed, no_names, drawn, renamed, in_parts, nothing_left}
-use Rattle.matching.specs.Parting.{own_of, wanted_of, whole_of, size, Regrouped, Renamed, Cancelled, Cut}
+use Rattle.matching.specs.Parting.{whole_of, Regrouped, Renamed, Cancelled, Cut}
 use Rattle.entails.specs.Reducing.{PartSettled, PartOf, OneLeft, TwoLeft}
 use Rattle.entails.specs.Searching.{ThenDrawn, SameSide, OtherSide}
 use Rattle.entails.specs.Telling.{first_of, second_of}

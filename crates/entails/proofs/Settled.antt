@@ -1,7 +1,7 @@
 -- From a search over all names to an answer.
 --
 -- goal_settled: what the search settles follows; answered: what is told is the answer.
-use Rattle.std.proofs.Common.{◌≡◌, ℕ, ◌<◌, ◌≤◌, List, Some, refl, arith}
+use Rattle.std.proofs.Common.{◌≡◌, ℕ, ◌≤◌, List, arith}
 use Rattle.std.specs.List.{AllByRecursion as All}
 use Rattle.claims.specs.Words.{Limits, Reads}
 use Rattle.claims.specs.Memory.{Names, PureHolds}

@@ -2,11 +2,10 @@
 --
 -- stretched_through, stretched_on: one atom more, which goes through the place or doesn't.
 -- stretched_plain: past the last atom nothing is stretched; stretched-enough: enough cells are enough.
-use Rattle.std.proofs.Common.{◌≡◌, ℕ, zero, suc, ◌+◌, ◌*◌, ◌<◌, ◌≤◌, List, [], ◌∷◌, ◌++◌, length, sym, refl, ap, ◌∙◌, subst, append_assoc, arith, length-append}
-use Rattle.std.specs.List.{flat_map}
+use Rattle.std.proofs.Common.{◌≡◌, ℕ, zero, suc, ◌≤◌, List, [], ◌∷◌, ◌++◌, length, sym, refl, ap, ◌∙◌, append_assoc, arith, length-append}
 use Rattle.std.proofs.lemmas.List.{append-nil}
 use Rattle.claims.specs.Claims.{Atom, cell, row}
-use Rattle.claims.specs.Memory.{Names, at, Memory}
+use Rattle.claims.specs.Memory.{Names, at}
 use Rattle.models.specs.Generic.{nonempty, link, linked, generic, linked_through, stretched}
 use Rattle.models.specs.Follows.{enough}
 use Rattle.std.proofs.lemmas.Bool.{cond_both}

@@ -1,14 +1,14 @@
 -- Memories that were tried, and none is against it.
 --
 -- stretches_more: one place more; atoms_count: how many atoms the first claim has; all_tried: so it follows for all names of the pattern.
-use Rattle.std.proofs.Common.{◌≡◌, ℕ, ◌+◌, ◌<◌, ◌≤◌, T, length, take, sym, ◌∙◌, subst, ⊎_elim, arith}
+use Rattle.std.proofs.Common.{◌≡◌, ℕ, ◌+◌, ◌<◌, length, take, sym, ◌∙◌, subst, ⊎_elim, arith}
 use lib.ListN.{length-map}
 use Rattle.std.proofs.lemmas.List.{length-take-le}
 use Rattle.std.proofs.lemmas.Bool.{cases_eq}
 use Rattle.claims.specs.Meaning.{atom_of}
 use Rattle.claims.specs.Words.{Limits}
-use Rattle.claims.specs.Memory.{Names, Memory, sound, Says}
-use Rattle.models.specs.Generic.{generic, stretched, Trial, plain, through}
+use Rattle.claims.specs.Memory.{Names, Memory}
+use Rattle.models.specs.Generic.{stretched, Trial, plain, through}
 use Rattle.models.proofs.Tried.{tried}
 use Rattle.linked.specs.declared.known.Known.{Known}
 use Rattle.matching.specs.Rules.{StandsAt}

@@ -2,12 +2,12 @@
 --
 -- all_stand: names that stand at the numbers of their representatives.
 -- memory_push: two more words are one more cell; told_push: so it is where they are written into an array.
-use Rattle.std.proofs.Common.{◌≡◌, ℕ, zero, suc, ◌+◌, ◌-◌, ◌*◌, ◌%◌, ◌<◌, ◌≤◌, List, [], ◌∷◌, ◌++◌, length, get_or, take, set, sym, refl, ap, ◌∙◌, subst, arith, lit<, length-set}
-use Rattle.std.proofs.lemmas.List.{take_more_set, take-set, take-set-le, length-take-le, append_assoc}
+use Rattle.std.proofs.Common.{◌≡◌, ℕ, zero, suc, ◌+◌, ◌*◌, ◌%◌, ◌<◌, ◌≤◌, List, [], ◌∷◌, ◌++◌, length, get_or, take, set, sym, refl, ap, ◌∙◌, subst, arith, lit<, length-set}
+use Rattle.std.proofs.lemmas.List.{take_more_set, length-take-le, append_assoc}
 use Rattle.std.proofs.ByRecursion.{All-from_get_or}
 use Rattle.std.proofs.lemmas.Bool.{ne_eqb}
 use Rattle.claims.specs.Claims.{row}
-use Rattle.claims.specs.Memory.{Names, at, Cell, Memory}
+use Rattle.claims.specs.Memory.{Names, at, Memory}
 use Rattle.memory.specs.Marks.{memory_of}
 use Rattle.models.specs.Generic.{linked_through}
 use Rattle.linked.specs.Stands.{root}

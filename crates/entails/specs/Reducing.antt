@@ -1,5 +1,5 @@
 -- What reducing a part of a question promises.
-use Rattle.std.specs.Prelude.{ℕ, ◌<◌, ◌≤◌, List, Some}
+use Rattle.std.specs.Prelude.{◌<◌, ◌≤◌, Some}
 use Rattle.linked.specs.Living.{Lives}
 use Rattle.linked.specs.declared.known.Known.{Known}
 use Rattle.matching.specs.Rules.{Closed}

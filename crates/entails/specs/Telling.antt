@@ -1,13 +1,10 @@
 -- Names and a memory that show that a claim doesn't follow from another.
-use Rattle.std.specs.Prelude.{◌≡◌, ℕ, ◌*◌, ◌<◌, ◌≤◌, Bool, true, false, T, length, take}
+use Rattle.std.specs.Prelude.{◌*◌, ◌≤◌, Bool, true, false, T, length, take}
 use Rattle.claims.specs.Claims as claims
 use Rattle.claims.specs.Memory.{Names, Memory, sound, Says}
 use Rattle.claims.specs.Decoding.{decoded_claim}
 use Rattle.memory.specs.Marks.{memory_of}
-use Rattle.models.specs.Generic.{Trial}
-use Rattle.models.specs.Follows.{Against, enough, FollowsLike}
-use Rattle.linked.specs.declared.known.Known.{Known}
-use Rattle.matching.specs.Rules.{StandsAt}
+use Rattle.models.specs.Follows.{Against, enough}
 use Rattle.entails.specs.declared.told.Told.{Told}
 use Rattle.entails.specs.declared.goals.Goal.{Goal}
 

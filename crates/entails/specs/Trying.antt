@@ -1,5 +1,5 @@
 -- What it says that memories were tried and none is against it.
-use Rattle.std.specs.Prelude.{◌≡◌, ℕ, ◌<◌, ◌≤◌, Bool, true, false}
+use Rattle.std.specs.Prelude.{ℕ, ◌<◌, ◌≤◌, Bool, true, false}
 use Rattle.claims.specs.Memory.{Names}
 use Rattle.models.specs.Generic.{stretched}
 use Rattle.models.specs.Follows.{FollowsLike}

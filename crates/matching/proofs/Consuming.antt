@@ -2,12 +2,12 @@
 --
 -- taken_out: an atom that is marked is taken out of those that were free; goes_over: and a row goes over it.
 -- all_free: where nothing is marked all are free.
-use Rattle.std.proofs.Common.{◌≡◌, ℕ, zero, suc, ◌<◌, ◌≤◌, List, [], ◌∷◌, length, get_or, take, set, sym, refl, ap, ◌∙◌, subst, subst₂, arith}
+use Rattle.std.proofs.Common.{◌≡◌, ℕ, zero, suc, ◌<◌, ◌≤◌, List, [], ◌∷◌, length, get_or, take, set, sym, refl, ap, subst, subst₂, arith}
 use Rattle.std.proofs.lemmas.List.{get_or-take, length-take-le}
-use Rattle.claims.specs.Claims.{Atom, cell, row}
-use Rattle.claims.specs.Memory.{Parts, none_p, left_p, right_p}
+use Rattle.claims.specs.Claims.{Atom, row}
+use Rattle.claims.specs.Memory.{Parts, left_p, right_p}
 use Rattle.memory.specs.Marks.{unmarked}
-use Rattle.memory.specs.Owners.{start, end}
+use Rattle.memory.specs.Owners.{end}
 use Rattle.memory.specs.Taking.{Put, put_here, put_later}
 use Rattle.memory.proofs.Parts.{parts_none}
 use Rattle.memory.proofs.Marking.{mark_out}

@@ -4,7 +4,7 @@
 -- parts_left, parts_right: one more in a part; unmarked_on, unmarked_past: one more that isn't marked, or is.
 use Rattle.std.proofs.Common.{◌≡◌, ℕ, zero, suc, ◌+◌, ◌-◌, ◌<◌, ◌≤◌, List, [], ◌∷◌, ◌++◌, map, length, get_or, take, sym, refl, ap, ◌∙◌, subst, subst₂, arith}
 use Rattle.std.specs.List.{AllByRecursion as All}
-use Rattle.std.proofs.lemmas.List.{map_push, take_more, get_or_default, length-take-le}
+use Rattle.std.proofs.lemmas.List.{map_push, take_more, length-take-le}
 use Rattle.std.proofs.ByRecursion.{All-from_get_or}
 use Rattle.claims.specs.Claims.{Atom, cell, row}
 use Rattle.claims.specs.Words.{AtomBelow}

@@ -1,16 +1,15 @@
 -- When the place of a name is never one of an atom's cells.
 --
 -- cell_outside: the atom is a cell whose start is another place; row_outside: it is a row, and its end would be there too.
-use Rattle.std.proofs.Common.{◌≡◌, ℕ, ◌<◌, true, false, T, List, get_or, sym, ap, ◌∙◌, subst}
+use Rattle.std.proofs.Common.{◌≡◌, ℕ, ◌<◌, true, false, List, get_or, sym, ◌∙◌, subst}
 use Rattle.std.proofs.lemmas.Bool.{both_ways}
 use Rattle.claims.specs.Claims.{Atom, cell, row}
-use Rattle.claims.specs.Memory.{Names, at, Memory, here, sound, AtomHolds}
-use Rattle.memory.specs.Owners.{Owns}
+use Rattle.claims.specs.Memory.{at, here, AtomHolds}
 use Rattle.memory.proofs.Rows.{row_end}
 use Rattle.memory.proofs.Atoms.{cell_only}
 use Rattle.memory.proofs.Dealt.{owns_part}
 use Rattle.linked.specs.Bits.{bit}
-use Rattle.linked.specs.Knowing.{Agrees, known_other}
+use Rattle.linked.specs.Knowing.{known_other}
 use Rattle.linked.specs.Reaching.{Reached, Barred}
 use Rattle.linked.specs.declared.known.Known.{Known}
 use Rattle.linked.proofs.Knowledge.{other_known}

@@ -3,10 +3,10 @@
 -- lives_append: lists that say the same, one behind the other.
 -- regrouped: a list in two parts and others behind it, in another order.
 -- cancel_none, cancel_found, cancel_kept, cancel_all: the turns of a loop that takes out what is found.
-use Rattle.std.proofs.Common.{◌≡◌, ℕ, ◌+◌, ◌<◌, ◌≤◌, List, [], ◌∷◌, ◌++◌, length, get_or, take, drop, Some, sym, refl, ap, ◌∙◌, subst, subst₂, arith}
+use Rattle.std.proofs.Common.{◌≡◌, ℕ, ◌+◌, ◌<◌, ◌≤◌, List, [], ◌∷◌, ◌++◌, length, get_or, take, drop, Some, sym, ap, ◌∙◌, subst, subst₂, arith}
 use Rattle.std.proofs.lemmas.List.{append-nil, append_assoc, drop_more, drop_all, take_at}
-use Rattle.claims.specs.Claims.{Atom, Claim}
-use Rattle.claims.specs.Memory.{Names, Memory, Parts, Dealt}
+use Rattle.claims.specs.Claims.{Atom}
+use Rattle.claims.specs.Memory.{Parts}
 use Rattle.memory.specs.Marks.{unmarked}
 use Rattle.memory.specs.Taking.{Put, put_here, put_later}
 use Rattle.memory.proofs.Parts.{parts_comm, parts_assoc, parts_regroup}

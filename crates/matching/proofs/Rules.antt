@@ -2,13 +2,12 @@
 --
 -- made_dealt: what an atom is made of can be taken out as that atom; parts_dealt, dealt_parts: so can parts of a list.
 -- closed_holds: what the rules say is so; all_settled: so the second claim holds wherever the first does.
-use Rattle.std.proofs.Common.{◌≡◌, ℕ, ◌<◌, ◌≤◌, Bool, true, false, not, ◌&&◌, T, eqb, ◌⊎◌, ◌↔◌, List, [], ◌∷◌, length, get_or, Some, None, Option, sym, refl, ap, ◌∙◌, subst, subst₂, inl, inr, ⊎_elim, arith}
+use Rattle.std.proofs.Common.{◌≡◌, ℕ, ◌<◌, ◌≤◌, Bool, true, false, not, ◌&&◌, T, List, [], ◌∷◌, length, get_or, Some, None, Option, sym, refl, ap, ◌∙◌, subst, inl, inr, ⊎_elim, arith}
 use Rattle.std.specs.List.{AllByRecursion as All}
-use Rattle.std.proofs.lemmas.Bool.{both_ways, cases_eq, cases_Bool, eqb-true, ne_eqb}
-use Rattle.claims.specs.Claims.{Pure, same, other, Atom, cell, row, Claim}
+use Rattle.std.proofs.lemmas.Bool.{both_ways, cases_eq, eqb-true, ne_eqb}
+use Rattle.claims.specs.Claims.{Pure, same, other, Atom, row, Claim}
 use Rattle.claims.specs.Words.{PureBelow}
 use Rattle.claims.specs.Memory.{Names, at, Memory, here, sound, Parts, none_p, left_p, right_p, IsRow, PureHolds, AtomHolds, Dealt, no_more, one_more, Says}
-use Rattle.memory.specs.Owners.{start, end, Owns}
 use Rattle.memory.specs.Taking.{Takes, Put}
 use Rattle.memory.proofs.Parts.{parts_comm, parts_assoc, parts_regroup, parts_none, none_parts, all_parts, not_true_false, sound_right}
 use Rattle.memory.proofs.Rows.{takes_row_none}
@@ -17,12 +16,12 @@ use Rattle.memory.proofs.Dealt.{dealt_take_out, dealt_put_in, owns_from}
 use Rattle.models.specs.Generic.{Like}
 use Rattle.models.specs.Follows.{FollowsLike}
 use Rattle.linked.specs.Stands.{root}
-use Rattle.linked.specs.Knowing.{Agrees, known_same, known_other, undecided, Joined, Parted}
+use Rattle.linked.specs.Knowing.{Agrees, known_same, known_other, Joined, Parted}
 use Rattle.linked.specs.Living.{Lives}
 use Rattle.linked.specs.Reaching.{Barred}
 use Rattle.linked.specs.Propagating.{Propagated}
 use Rattle.linked.specs.declared.known.Known.{Known}
-use Rattle.linked.proofs.Knowledge.{to_root, same_known, other_known}
+use Rattle.linked.proofs.Knowledge.{same_known, other_known}
 use Rattle.matching.specs.Rules.{PureKnown, MadeOf, arrived, over, Made, made_cell, made_row, StandsAt, Total, Closed, no_names, drawn, cases, renamed, taken, in_parts, nothing_left, pattern, Met, HoldsFor}
 
 -- A memory is dealt out to all atoms ls, with names that agree with what is known.

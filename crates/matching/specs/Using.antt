@@ -1,7 +1,6 @@
 -- The atoms that are not used up, and what using some of them promises. The first `own` of the atoms ls may be used.
-use Rattle.std.specs.Prelude.{◌≡◌, ℕ, ◌<◌, T, List, length, get_or, take, Some, None, Option, ◌≢◌, slice_index, slice_index_or}
-use Rattle.std.specs.List.{AllByRecursion as All}
-use Rattle.claims.specs.Claims.{Pure, Atom, cell, row}
+use Rattle.std.specs.Prelude.{◌≡◌, ℕ, ◌<◌, T, List, get_or, take, Some, None, Option, ◌≢◌, slice_index, slice_index_or}
+use Rattle.claims.specs.Claims.{Atom, cell, row}
 use Rattle.claims.specs.Memory.{Names, at, Memory, sound}
 use Rattle.memory.specs.Marks.{unmarked}
 use Rattle.memory.specs.Owners.{start, Owns}

@@ -6,7 +6,6 @@ use crate::checks::{Checked, check as check_claim};
 use crate::deals::Why;
 use claims::Place;
 use std::process::Abort;
-use std::test::Fail;
 
 // The answer is this one, and the words lent are as they were.
 fn answers(
@@ -15,43 +14,84 @@ fn answers(
     names: &[u32],
     memory: &[u32],
     answer: Checked,
-) -> Result<(), Fail> {
+    what: &str,
+) {
     let mut work = [1, 0, 7];
-    assert_eq!(rt; check_claim(claim, names, memory, &mut work), answer);
-    assert!(rt; work[0] == 1 && work[1] == 0 && work[2] == 7);
-    Ok(())
+    assert_eq!(rt;
+        check_claim(claim, names, memory, &mut work),
+        answer,
+        "{what}"
+    );
+    assert!(rt; work[0] == 1 && work[1] == 0 && work[2] == 7, "{what}");
 }
 
 #[test]
-fn claims_that_hold(rt: HostRuntime) -> Result<(), Fail> {
-    answers(&rt, &[1, 0, 0], &[0], &[], Checked::Holds).note("an empty claim, an empty memory")?;
-    answers(&rt, &[1, 0, 1, 3, 0, 0], &[0], &[], Checked::Holds).note(
+fn claims_that_hold(rt: HostRuntime) {
+    answers(
+        &rt,
+        &[1, 0, 0],
+        &[0],
+        &[],
+        Checked::Holds,
+        "an empty claim, an empty memory",
+    );
+    answers(
+        &rt,
+        &[1, 0, 1, 3, 0, 0],
+        &[0],
+        &[],
+        Checked::Holds,
         "a row from nowhere to nowhere",
-    )?;
+    );
     let twice = [4, 0, 2, 3, 1, 3, 3, 1, 2];
-    answers(&rt, &twice, &[0, 1, 2, 1], &[1, 2], Checked::Holds).note(
+    answers(
+        &rt,
+        &twice,
+        &[0, 1, 2, 1],
+        &[1, 2],
+        Checked::Holds,
         "two rows from one name, one empty",
-    )?;
+    );
     let third = [4, 2, 1, 0, 1, 3, 0, 2, 3, 3, 1, 2];
-    answers(&rt, &third, &[0, 7, 7, 7], &[], Checked::Holds).note(
+    answers(
+        &rt,
+        &third,
+        &[0, 7, 7, 7],
+        &[],
+        Checked::Holds,
         "the ends are the same as a third",
-    )?;
+    );
     let row = [3, 0, 1, 3, 1, 2];
-    answers(&rt, &row, &[0, 1, 9], &[2, 9, 1, 2], Checked::Holds).note(
+    answers(
+        &rt,
+        &row,
+        &[0, 1, 9],
+        &[2, 9, 1, 2],
+        Checked::Holds,
         "no cell is where the row ends",
-    )
+    );
 }
 
 #[test]
-fn claims_that_fail(rt: HostRuntime) -> Result<(), Fail> {
+fn claims_that_fail(rt: HostRuntime) {
     let to_a_place = Checked::Fails(Why::Stuck(0, Place(0)));
-    answers(&rt, &[2, 0, 1, 3, 0, 1], &[0, 5], &[], to_a_place).note(
+    answers(
+        &rt,
+        &[2, 0, 1, 3, 0, 1],
+        &[0, 5],
+        &[],
+        to_a_place,
         "a row from nowhere to a place",
-    )?;
+    );
     let round = Checked::Fails(Why::Stuck(0, Place(1)));
-    answers(&rt, &[3, 0, 1, 3, 1, 2], &[0, 1, 2], &[1, 1], round).note(
+    answers(
+        &rt,
+        &[3, 0, 1, 3, 1, 2],
+        &[0, 1, 2],
+        &[1, 1],
+        round,
         "a row round a cell that leads to itself",
-    )?;
+    );
     let again = Checked::Fails(Why::Stuck(1, Place(1)));
     answers(
         &rt,
@@ -59,29 +99,79 @@ fn claims_that_fail(rt: HostRuntime) -> Result<(), Fail> {
         &[0, 1, 2],
         &[1, 2],
         again,
-    )
-    .note("one cell for two")?;
+        "one cell for two",
+    );
     let past = Checked::Fails(Why::LeftOver(1));
-    answers(&rt, &[3, 0, 1, 3, 1, 2], &[0, 1, 2], &[1, 2, 2, 0], past).note(
+    answers(
+        &rt,
+        &[3, 0, 1, 3, 1, 2],
+        &[0, 1, 2],
+        &[1, 2, 2, 0],
+        past,
         "a cell behind the end of the row",
-    )?;
+    );
     let left = Checked::Fails(Why::LeftOver(0));
-    answers(&rt, &[2, 0, 0], &[0, 1], &[1, 2], left).note("a cell left over")?;
+    answers(&rt, &[2, 0, 0], &[0, 1], &[1, 2], left, "a cell left over");
     let pure = Checked::Fails(Why::Pure(1));
-    answers(&rt, &[2, 2, 0, 1, 0, 1, 0, 0, 1], &[0, 4], &[], pure).note(
+    answers(
+        &rt,
+        &[2, 2, 0, 1, 0, 1, 0, 0, 1],
+        &[0, 4],
+        &[],
+        pure,
         "an other that is true, a same that is false",
-    )
+    );
 }
 
 #[test]
-fn words_that_ask_nothing(rt: HostRuntime) -> Result<(), Fail> {
-    answers(&rt, &[1, 0, 0], &[0], &[1, 2, 1, 3], Checked::NoMemory).note("one place twice")?;
-    answers(&rt, &[1, 0, 0], &[0], &[0, 2], Checked::NoMemory).note("a cell nowhere")?;
-    answers(&rt, &[1, 0, 0], &[0], &[1, 2, 3], Checked::NoMemory).note("half a cell")?;
-    answers(&rt, &[2, 0, 0], &[0], &[], Checked::NoMemory).note("a name without a word")?;
-    answers(&rt, &[1, 0, 0, 0], &[0], &[], Checked::NoClaim).note("a word too many")?;
-    answers(&rt, &[0, 0, 0], &[], &[], Checked::NoClaim).note("no names")?;
-    answers(&rt, &[], &[], &[1, 2, 3, 4, 5, 6, 7, 8], Checked::Few).note(
+fn words_that_ask_nothing(rt: HostRuntime) {
+    answers(
+        &rt,
+        &[1, 0, 0],
+        &[0],
+        &[1, 2, 1, 3],
+        Checked::NoMemory,
+        "one place twice",
+    );
+    answers(
+        &rt,
+        &[1, 0, 0],
+        &[0],
+        &[0, 2],
+        Checked::NoMemory,
+        "a cell nowhere",
+    );
+    answers(
+        &rt,
+        &[1, 0, 0],
+        &[0],
+        &[1, 2, 3],
+        Checked::NoMemory,
+        "half a cell",
+    );
+    answers(
+        &rt,
+        &[2, 0, 0],
+        &[0],
+        &[],
+        Checked::NoMemory,
+        "a name without a word",
+    );
+    answers(
+        &rt,
+        &[1, 0, 0, 0],
+        &[0],
+        &[],
+        Checked::NoClaim,
+        "a word too many",
+    );
+    answers(&rt, &[0, 0, 0], &[], &[], Checked::NoClaim, "no names");
+    answers(
+        &rt,
+        &[],
+        &[],
+        &[1, 2, 3, 4, 5, 6, 7, 8],
+        Checked::Few,
         "four cells, three words lent",
-    )
+    );
 }

@@ -1,7 +1,7 @@
 -- The words of a question, cut behind its first claim, are that claim's.
-use Rattle.std.proofs.Common.{◌≡◌, ℕ, ◌+◌, ◌*◌, ◌≤◌, List, [], ◌∷◌, ◌++◌, map, length, take, sym, refl, ap, ◌∙◌, arith, w64, Fits}
+use Rattle.std.proofs.Common.{◌≡◌, ℕ, ◌+◌, ◌*◌, List, ◌∷◌, length, take, ap, ◌∙◌, arith, w64, Fits}
 use Rattle.std.proofs.lemmas.List.{take_at}
-use Rattle.claims.specs.Claims.{Claim, Question}
+use Rattle.claims.specs.Claims.{Question}
 use Rattle.claims.specs.Words.{words, claim_words, Limits}
 use Rattle.claims.proofs.ClaimWords.{length_claim}
 use Rattle.memory.specs.Checking.{IsClaim}

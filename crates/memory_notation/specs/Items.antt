@@ -1,5 +1,5 @@
 -- How the words of a text follow one another.
-use Rattle.std.specs.Prelude.{◌≡◌, ◌<◌, ◌≢◌}
+use Rattle.std.specs.Prelude.{◌<◌, ◌≢◌}
 use Rattle.notation.specs.declared.scans.Scan.{Scan}
 use Rattle.notation.specs.declared.tokens.Kind.TheVariants.{End}
 use Rattle.memory_notation.specs.declared.items.Item.{Item}

@@ -1,13 +1,13 @@
 -- Names that are numbered in order: one more at the end, one list after another, and that all are below the count.
-use Rattle.std.proofs.Common.{◌≡◌, ℕ, suc, ◌+◌, ◌<◌, ◌≤◌, List, [], ◌∷◌, ◌++◌, map, length, get_or, sym, refl, ap, ◌∙◌, subst, append_assoc, append-nil, arith}
+use Rattle.std.proofs.Common.{◌≡◌, ℕ, suc, ◌+◌, ◌<◌, ◌≤◌, List, [], ◌∷◌, ◌++◌, map, length, get_or, sym, ap, ◌∙◌, subst, append_assoc, append-nil, arith}
 use Rattle.std.proofs.lemmas.List.{length-map}
 use Rattle.std.specs.List.{flat_map, AllByRecursion as All}
-use Rattle.claims.specs.Claims.{Pure, same, other, Atom, cell, row, Claim, Question}
-use Rattle.claims.specs.Words.{PureBelow, AtomBelow, Fits, Limits}
+use Rattle.claims.specs.Claims.{Pure, same, other, Atom, cell, row, Claim}
+use Rattle.claims.specs.Words.{PureBelow, AtomBelow, Fits}
 use Rattle.notation.specs.declared.spans.Span.{Span}
 use Rattle.notation.specs.Spelling.{spelling, spellings, Distinct}
 use Rattle.notation.proofs.Spelled.{no_bytes}
-use Rattle.notation.specs.Order.{pure_names, atom_names, claim_mentions, mentions, InOrder, done, known, new, Numbered, Accepted}
+use Rattle.notation.specs.Order.{pure_names, atom_names, claim_mentions, InOrder, done, known, new, Numbered, Accepted}
 
 pub in-order-append : {k m n : ℕ} {xs ys : List ℕ} → InOrder k xs m → InOrder m ys n → InOrder k (xs ++ ys) n
 in-order-append done b = b

@@ -1,5 +1,5 @@
 -- What a reader promises.
-use Rattle.std.specs.Prelude.{◌≡◌, ℕ, ◌-◌, ◌<◌, List, length, Some, None, Ok, Err, vec_items, Option, Result}
+use Rattle.std.specs.Prelude.{ℕ, ◌-◌, ◌<◌, List, length, Some, None, Ok, Err, vec_items, Option, Result}
 use Rattle.std.specs.declared.alloc.AllocError.{AllocError}
 use Rattle.claims.specs.Meaning.{question_of}
 use Rattle.notation.specs.declared.numbering.Asked.{Asked}

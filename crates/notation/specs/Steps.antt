@@ -1,6 +1,5 @@
 -- How the words of a text follow one another.
 use Rattle.std.specs.Prelude.{◌≡◌, ℕ, ◌<◌, ◌≤◌, List, length, ◌≢◌}
-use Rattle.notation.specs.declared.tokens.Kind.{Kind}
 use Rattle.notation.specs.declared.tokens.Kind.TheVariants.{End}
 use Rattle.notation.specs.declared.scans.Scan.{Scan}
 use Rattle.notation.specs.declared.tokens.Token.{Token}

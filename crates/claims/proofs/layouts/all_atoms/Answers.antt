@@ -1,5 +1,4 @@
-use Rattle.std.proofs.Common.{refl, arith}
-use Rattle.claims.specs.Claims.{Atom, cell, row}
+use Rattle.std.proofs.Common.{arith}
 use Rattle.claims.specs.Words.{atom_words, AtomBelow}
 use Rattle.claims.specs.Meaning.{atom_of}
 use Rattle.claims.proofs.Threes.{threes_more, threes_stop, threes_all, threes_rest}

@@ -1,5 +1,4 @@
-use Rattle.std.proofs.Common.{refl, arith}
-use Rattle.claims.specs.Claims.{Pure, same, other}
+use Rattle.std.proofs.Common.{arith}
 use Rattle.claims.specs.Words.{pure_words, PureBelow}
 use Rattle.claims.specs.Meaning.{pure_of}
 use Rattle.claims.proofs.Threes.{threes_more, threes_stop, threes_all, threes_rest}

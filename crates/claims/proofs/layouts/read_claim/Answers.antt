@@ -1,4 +1,4 @@
-use Rattle.std.proofs.Common.{◌≡◌, ◌+◌, ◌-◌, ◌*◌, ◌≤◌, length, get_or, take, drop, arith, length-drop, length-take}
+use Rattle.std.proofs.Common.{◌+◌, ◌-◌, ◌*◌, ◌≤◌, length, get_or, drop, arith, length-drop, length-take}
 use Rattle.claims.specs.Claims.{Claim}
 use Rattle.claims.proofs.ClaimWords.{Stands, behind, claim_stands, claim_made, count_pures, count_atoms}
 use Rattle.claims.proofs.layouts.read_claim.Goals as goal

@@ -1,4 +1,4 @@
-use Rattle.std.proofs.Common.{◌≡◌, ℕ, ◌+◌, ◌-◌, ◌*◌, List, ◌++◌, length, take, drop, subst, subst₂}
+use Rattle.std.proofs.Common.{◌≡◌, ℕ, ◌+◌, ◌*◌, List, ◌++◌, length, take, drop, subst}
 use Rattle.matching.proofs.Lists.{front}
 use Rattle.entails.proofs.Shown.{shown}
 use Rattle.entails.proofs.deciding.tell.Goals as goal

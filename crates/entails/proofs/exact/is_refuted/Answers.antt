@@ -1,5 +1,4 @@
-use Rattle.std.proofs.Common.{◌≡◌, ◌+◌, length, sym, refl, ap, ◌∙◌, subst, arith, length-take, below_more}
-use lib.ListN.{length-map}
+use Rattle.std.proofs.Common.{◌+◌, sym, refl, ◌∙◌, subst, arith, below_more}
 use Rattle.models.specs.Generic.{stretched}
 use Rattle.entails.specs.Telling.{first_of, NotAgainst}
 use Rattle.entails.specs.Trying.{StretchesTried}

@@ -1,9 +1,8 @@
-use Rattle.std.proofs.Common.{◌≡◌, ◌≤◌, [], ◌++◌, length, get_or, sym, refl, ap, ◌∙◌, subst, arith}
+use Rattle.std.proofs.Common.{◌≤◌, [], ◌++◌, length, get_or, sym, refl, ap, ◌∙◌, subst, arith}
 use Rattle.std.proofs.lemmas.List.{append-nil}
 use Rattle.claims.specs.Words.{Fits, claim_words}
 use Rattle.claims.specs.Decoding.{decoded_claim}
 use Rattle.claims.proofs.ClaimWords.{claim_one, length_claim, from, rest_from, claim_whole, question_apart, question_made, second_is}
-use Rattle.entails.specs.Telling.{question_of}
 use Rattle.entails.proofs.reading.read_goal.Goals as goal
 
 -- the first claim is none

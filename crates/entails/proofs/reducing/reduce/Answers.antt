@@ -1,5 +1,4 @@
 use Rattle.std.proofs.Common.{refl}
-use Rattle.entails.specs.Reducing.{OneLeft}
 use Rattle.entails.proofs.Reductions.{renamed_left, cancelled_left, none_left, two_left}
 use Rattle.entails.proofs.reducing.reduce.Goals as goal
 

@@ -1,6 +1,5 @@
-use Rattle.std.proofs.Common.{map, Some, None, sym, subst}
-use Rattle.std.specs.List.{AllByRecursion as All}
-use Rattle.claims.specs.Memory.{Names, PureHolds}
+use Rattle.std.proofs.Common.{Some, None}
+use Rattle.claims.specs.Memory.{PureHolds}
 use Rattle.claims.specs.Meaning.{pure_of}
 use Rattle.claims.specs.Words.{PureBelow}
 use Rattle.entails.proofs.Bounds.{first_pures}

@@ -1,10 +1,10 @@
-use Rattle.std.proofs.Common.{◌≡◌, ◌-◌, List, [], ◌++◌, map, length, take, sym, ap, ◌∙◌, subst, arith, length-take}
+use Rattle.std.proofs.Common.{◌-◌, List, ◌++◌, map, sym, ap, ◌∙◌, subst, arith, length-take}
 use Rattle.std.proofs.lemmas.List.{append-nil}
 use Rattle.claims.specs.Claims.{Atom}
 use Rattle.claims.specs.Meaning.{atom_of}
 use Rattle.claims.specs.Words.{AtomBelow}
 use Rattle.linked.specs.Living.{Lives, atoms_of}
-use Rattle.entails.specs.Telling.{first_of, second_of}
+use Rattle.entails.specs.Telling.{first_of}
 use Rattle.entails.proofs.Bounds.{first_atoms, second_atoms}
 use Rattle.matching.proofs.Lists.{empty_list, front, front_all}
 use Rattle.entails.proofs.settling.whole.Goals as goal

@@ -1,7 +1,7 @@
-use Rattle.std.proofs.Common.{◌≡◌, ℕ, ◌+◌, ◌*◌, ◌<◌, ◌≤◌, List, [], ◌∷◌, ◌++◌, map, length, get_or, take, sym, refl, ap, ◌∙◌, subst, arith}
+use Rattle.std.proofs.Common.{◌≡◌, ℕ, ◌+◌, ◌*◌, ◌<◌, ◌≤◌, List, [], ◌∷◌, ◌++◌, map, length, get_or, take, sym, ap, ◌∙◌, subst, arith}
 use lib.ListN.{length-map}
 use Rattle.std.proofs.lemmas.List.{map_more, take_all, length-take-le}
-use Rattle.claims.specs.Memory.{Names, Memory}
+use Rattle.claims.specs.Memory.{Names}
 use Rattle.claims.specs.Meaning.{atom_of}
 use Rattle.claims.specs.declared.parts.Atom.{Atom}
 use Rattle.models.specs.Generic.{linked, linked_through, stretched}

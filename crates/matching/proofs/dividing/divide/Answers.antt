@@ -1,4 +1,4 @@
-use Rattle.std.proofs.Common.{◌≡◌, List, take, refl, ap, ◌∙◌, subst, arith}
+use Rattle.std.proofs.Common.{List, refl, ap, ◌∙◌, subst, arith}
 use Rattle.std.proofs.lemmas.List.{take_all}
 use Rattle.claims.specs.Claims.{Atom}
 use Rattle.claims.specs.Memory.{Parts}

@@ -1,4 +1,4 @@
-use Rattle.std.proofs.Common.{◌≡◌, ◌-◌, map, length, take, sym, ap, ◌∙◌, subst, arith, length-take}
+use Rattle.std.proofs.Common.{◌-◌, map, sym, subst, arith, length-take}
 use Rattle.std.specs.List.{AllByRecursion as All}
 use Rattle.claims.specs.Meaning.{atom_of}
 use Rattle.claims.specs.Words.{AtomBelow}

@@ -1,4 +1,4 @@
-use Rattle.std.proofs.Common.{◌≡◌, ◌-◌, List, map, length, take, sym, ap, ◌∙◌, subst, arith, length-take}
+use Rattle.std.proofs.Common.{◌-◌, List, map, ap, ◌∙◌, subst, arith, length-take}
 use Rattle.claims.specs.Claims.{Atom}
 use Rattle.claims.specs.Meaning.{atom_of}
 use Rattle.claims.specs.Words.{AtomBelow}

@@ -1,4 +1,4 @@
-use Rattle.std.proofs.Common.{◌≡◌, refl, ◌∙◌, ap₂, eqb-true}
+use Rattle.std.proofs.Common.{refl, ◌∙◌, ap₂, eqb-true}
 use Rattle.claims.specs.Claims.{cell, row}
 use Rattle.matching.proofs.walking.is_cell.Goals as goal
 

@@ -1,4 +1,4 @@
-use Rattle.std.proofs.Common.{vec_items, sym, ap, ◌∙◌, arith}
+use Rattle.std.proofs.Common.{vec_items, sym, ◌∙◌}
 use lib.ListN.{length-map}
 use Rattle.claims.specs.Meaning.{pure_of, atom_of, question_of}
 use Rattle.memory_notation.proofs.Cut.{cut_claim, small, small_more}

@@ -1,9 +1,9 @@
-use Rattle.std.proofs.Common.{◌≡◌, List, ◌++◌, sym, refl, ap, ◌∙◌, subst, arith}
+use Rattle.std.proofs.Common.{List, ◌++◌, sym, subst, arith}
 use Rattle.claims.specs.Claims.{Atom}
 use Rattle.claims.specs.Meaning.{atom_of}
 use Rattle.linked.specs.Living.{atoms_of}
 use Rattle.linked.proofs.Reach.{live-length}
-use Rattle.matching.specs.Parting.{wanted_of, whole_of, Regrouped}
+use Rattle.matching.specs.Parting.{wanted_of, Regrouped}
 use Rattle.matching.specs.Rules.{Made}
 use Rattle.matching.specs.Using.{free}
 use Rattle.matching.proofs.Lists.{empty_list, live_push}

@@ -1,4 +1,4 @@
-use Rattle.std.proofs.Common.{◌≡◌, min, length, sym, ap, ◌∙◌, subst}
+use Rattle.std.proofs.Common.{min, length, ap, ◌∙◌}
 use Rattle.std.specs.List.{between}
 use Rattle.notation.proofs.Spelled.{cut_span}
 use Rattle.notation.proofs.spans.Span.of.Goals as goal
