@@ -1,6 +1,6 @@
 -- The definitions at work: a memory of two cells, its parts, what names are in it, an empty row, and a question as words.
 use Rattle.std.proofs.Common.{◌≡◌, T, [], ◌∷◌, refl, arith}
-use Rattle.std.specs.List.{AllByRecursion as All}
+use Rattle.std.specs.List.{AllByRecursion}
 use Rattle.claims.specs.Claims.{same, other, cell, row, Question}
 use Rattle.claims.specs.Words.{words, Reads}
 use Rattle.claims.specs.Memory.{Names, Memory, sound, Parts, none_p, left_p, right_p, IsRow, no_cells, some_cells, PureHolds, no_more, one_more, Says}
@@ -19,7 +19,7 @@ two_parts = left_p (right_p none_p)
 abbrev pub two_names : Names
 two_names = 0 ∷ 1 ∷ 2 ∷ []
 
-pub two_pures : All (PureHolds two_names) (other 1 2 ∷ same 1 1 ∷ other 2 0 ∷ [])
+pub two_pures : AllByRecursion (PureHolds two_names) (other 1 2 ∷ same 1 1 ∷ other 2 0 ∷ [])
 two_pures = ((λ e. omega arith), (refl, ((λ e. omega arith), tt)))
 
 pub empty_row : IsRow 5 5 []

@@ -3,7 +3,7 @@
 -- f gives the three words of a part, P says which parts are meant, and g what an element of the array stands for.
 -- `put_more` and `put_all` are a turn and the end of the loop; `count_put` says how many parts were put.
 use Rattle.std.proofs.Common.{◌≡◌, ℕ, ◌+◌, ◌-◌, ◌*◌, ◌/◌, ◌%◌, ◌<◌, List, [], ◌∷◌, ◌++◌, map, length, take, drop, set, sym, ap, ◌∙◌, ap₂, arith, length-set, take-add}
-use Rattle.std.specs.List.{flat_map, AllByRecursion as All}
+use Rattle.std.specs.List.{flat_map, AllByRecursion}
 use Rattle.std.proofs.lemmas.List.{take_more_set, map_push, take_rest, take_all, flat_map_more}
 use Rattle.std.proofs.ByRecursion.{All-push}
 
@@ -11,7 +11,7 @@ use Rattle.std.proofs.ByRecursion.{All-push}
 pub record Put {A X : Type 0} (f : A → List ℕ) (P : A → Type 0) (g : X → A) (k : ℕ) (s : List ℕ) (i : ℕ) (xs : List X) : Type 0 where
   pub room : length xs ≡ k
   pub words : flat_map f (map g (take i xs)) ≡ take (3 * i) s
-  pub meant : All P (map g (take i xs))
+  pub meant : AllByRecursion P (map g (take i xs))
 
 module _ {A X : Type 0} (f : A → List ℕ) (P : A → Type 0) (g : X → A) (k : ℕ) (s : List ℕ) (i : ℕ) (xs : List X) where
   -- the words from 3 * i on are as the checker reads `&s[3 * i..]`
@@ -34,14 +34,14 @@ module _ {A X : Type 0} (f : A → List ℕ) (P : A → Type 0) (g : X → A) (k
 
   pub put_all :
       i ≡ length s / 3 → length s % 3 ≡ 0 → Put f P g k s i xs →
-      (length xs ≡ k) × (flat_map f (map g (take (length s / 3) xs)) ≡ s) × All P (map g (take (length s / 3) xs))
+      (length xs ≡ k) × (flat_map f (map g (take (length s / 3) xs)) ≡ s) × AllByRecursion P (map g (take (length s / 3) xs))
   put_all h m p = (p.room, rw (← h) (p.words ∙ take_all (3 * i) s (omega arith)), rw (← h) p.meant)
 
 -- so many parts were put
 pub count_put :
     {A X : Type 0} (f : A → List ℕ) (P : A → Type 0) (g : X → A) (s : List ℕ) (n : ℕ) (xs : List X) → length s ≡ 3 * n →
-    flat_map f (map g (take (length s / 3) xs)) ≡ s → All P (map g (take (length s / 3) xs)) →
-    (flat_map f (map g (take n xs)) ≡ s) × All P (map g (take n xs))
+    flat_map f (map g (take (length s / 3) xs)) ≡ s → AllByRecursion P (map g (take (length s / 3) xs)) →
+    (flat_map f (map g (take n xs)) ≡ s) × AllByRecursion P (map g (take n xs))
 count_put f P g s n xs h e a =
     let same : length s / 3 ≡ n = omega arith in
     (rw same at e, rw same at a)

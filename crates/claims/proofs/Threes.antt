@@ -4,7 +4,7 @@
 -- `threes_rest` are the ways of a loop that reads one part after the other; `threes_one` says that the words tell the parts.
 use Rattle.std.proofs.Common.{◌≡◌, ℕ, zero, suc, ◌+◌, ◌-◌, ◌*◌, ◌/◌, ◌%◌, ◌<◌, List, [], ◌∷◌, ◌++◌, map, length, get_or, take, drop, sym, refl, ap, ◌∙◌, ap₂, arith, length-append, take-add}
 use lib.Seq.{drop-append-add}
-use Rattle.std.specs.List.{flat_map, AllByRecursion as All}
+use Rattle.std.specs.List.{flat_map, AllByRecursion}
 use Rattle.std.proofs.lemmas.List.{take_at, drop_at, append_assoc, flat_map_more, map_more, take_all, take_rest}
 use Rattle.std.proofs.ByRecursion.{All-push}
 
@@ -28,7 +28,7 @@ module _ {A : Type 0} (f : A → List ℕ) (P : A → Type 0) (three : (x : A) �
 
   -- the part at i has its words at 3 * i
   pub threes_at :
-      (xs : List A) (i : ℕ) → i < length xs → All P xs → (x : A) × P x × (take 3 (drop (3 * i) (flat_map f xs)) ≡ f x)
+      (xs : List A) (i : ℕ) → i < length xs → AllByRecursion P xs → (x : A) × P x × (take 3 (drop (3 * i) (flat_map f xs)) ≡ f x)
   threes_at [] i h a = absurd (omega arith)
   threes_at (x ∷ xs) zero h a = (x, a.0, take_at (f x) (flat_map f xs) 3 (three x))
   threes_at (x ∷ xs) (suc i) h a =
@@ -39,8 +39,8 @@ module _ {A : Type 0} (f : A → List ℕ) (P : A → Type 0) (three : (x : A) �
   -- one more part was read; the words from 3 * i on are as the checker reads `&s[3 * i..]`
   pub threes_more :
       (s : List ℕ) (i : ℕ) (x : A) → P x → take 3 (take (length s - 3 * i) (drop (3 * i) s)) ≡ f x →
-      (xs : List A) × (flat_map f xs ≡ take (3 * i) s) × All P xs →
-      (xs : List A) × (flat_map f xs ≡ take (3 * (i + 1)) s) × All P xs
+      (xs : List A) × (flat_map f xs ≡ take (3 * i) s) × AllByRecursion P xs →
+      (xs : List A) × (flat_map f xs ≡ take (3 * (i + 1)) s) × AllByRecursion P xs
   threes_more s i x px e t =
       let d = sym (ap (take 3) (take_rest s (3 * i))) ∙ e in
       let k : 3 * (i + 1) ≡ 3 * i + 3 = omega arith in
@@ -50,7 +50,7 @@ module _ {A : Type 0} (f : A → List ℕ) (P : A → Type 0) (three : (x : A) �
   -- there is no part at i
   pub threes_stop :
       (s : List ℕ) (i : ℕ) → i < length s / 3 → ((x : A) → P x → take 3 (take (length s - 3 * i) (drop (3 * i) s)) ≡ f x → ⊥) →
-      (xs : List A) → flat_map f xs ≡ s → All P xs → ⊥
+      (xs : List A) → flat_map f xs ≡ s → AllByRecursion P xs → ⊥
   threes_stop s i h no_part xs e a =
       let l : i < length xs = omega (arith, length_threes xs, ap length e) in
       let t = threes_at xs i l a in
@@ -58,8 +58,8 @@ module _ {A : Type 0} (f : A → List ℕ) (P : A → Type 0) (three : (x : A) �
 
   -- all were read
   pub threes_all :
-      (s : List ℕ) (i : ℕ) → i ≡ length s / 3 → length s % 3 ≡ 0 → (xs : List A) × (flat_map f xs ≡ take (3 * i) s) × All P xs →
-      (xs : List A) × (flat_map f xs ≡ s) × All P xs
+      (s : List ℕ) (i : ℕ) → i ≡ length s / 3 → length s % 3 ≡ 0 → (xs : List A) × (flat_map f xs ≡ take (3 * i) s) × AllByRecursion P xs →
+      (xs : List A) × (flat_map f xs ≡ s) × AllByRecursion P xs
   threes_all s i h m t = (t.0, t.1 ∙ take_all (3 * i) s (omega arith), t.2)
 
   -- words are left over

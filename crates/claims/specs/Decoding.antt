@@ -1,6 +1,6 @@
 -- What decoding promises: a claim's words, as values.
 use Rattle.std.specs.Prelude.{◌≡◌, ℕ, ◌/◌, List, ◌++◌, map, length, take, Some, None, Option}
-use Rattle.std.specs.List.{flat_map, AllByRecursion as All}
+use Rattle.std.specs.List.{flat_map, AllByRecursion}
 use Rattle.claims.specs.Claims as claims
 use Rattle.claims.specs.Words.{claim_words, Fits}
 use Rattle.claims.specs.Meaning.{pure_of, atom_of}
@@ -17,8 +17,8 @@ decoded_claim d =
 abbrev pub PartsRead :
     {A X : Type 0} → (A → List ℕ) → (A → Type 0) → (X → A) → ℕ → List ℕ → Option (List X) → Type 0
 PartsRead f P g k s (Some xs) =
-    (length xs ≡ k) × (flat_map f (map g (take (length s / 3) xs)) ≡ s) × All P (map g (take (length s / 3) xs))
-PartsRead {A} f P g k s None = (ps : List A) → flat_map f ps ≡ s → All P ps → ⊥
+    (length xs ≡ k) × (flat_map f (map g (take (length s / 3) xs)) ≡ s) × AllByRecursion P (map g (take (length s / 3) xs))
+PartsRead {A} f P g k s None = (ps : List A) → flat_map f ps ≡ s → AllByRecursion P ps → ⊥
 
 -- the words s begin with the claim d, which is over n names
 pub record Decodes (s : List ℕ) (n : ℕ) (d : Decoded) : Type 0 where

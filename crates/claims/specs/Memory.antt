@@ -1,6 +1,6 @@
 -- What a claim says of names and a memory.
 use Rattle.std.specs.Prelude.{◌≡◌, ℕ, zero, suc, Bool, true, false, not, ◌&&◌, ◌||◌, List, [], ◌∷◌, ◌==◌, ◌≢◌, slice_index}
-use Rattle.std.specs.List.{AllByRecursion as All}
+use Rattle.std.specs.List.{AllByRecursion}
 use Rattle.claims.specs.Claims.{Pure, same, other, Atom, cell, row, Claim}
 
 -- What names stand for: places (locations), which are numbers from 1, or nowhere, 0, as name 0 always does.
@@ -65,5 +65,5 @@ pub data Dealt (n : Names) : List Atom → Memory → Type 0 where
 
 -- the claim c holds of the names n and the memory m
 pub record Says (n : Names) (m : Memory) (c : Claim) : Type 0 where
-  pub pures : All (PureHolds n) c.pures
+  pub pures : AllByRecursion (PureHolds n) c.pures
   pub atoms : Dealt n c.atoms m

@@ -1,6 +1,6 @@
 -- What reading promises.
 use Rattle.std.specs.Prelude.{◌≡◌, ℕ, Bool, true, false, List, ◌++◌, length, take, Some, None, Option, ◌≢◌}
-use Rattle.std.specs.List.{flat_map, AllByRecursion as All}
+use Rattle.std.specs.List.{flat_map, AllByRecursion}
 use Rattle.claims.specs.Claims as claims
 use Rattle.claims.specs.Words.{pure_words, atom_words, claim_words, PureBelow, AtomBelow, Fits, Reads, OneQuestion}
 use Rattle.claims.specs.Meaning.{pure_of, atom_of}
@@ -21,8 +21,8 @@ AtomRead s n None = (a : claims.Atom) → AtomBelow n a → take 3 s ≢ atom_wo
 
 -- the words s are just the words of such parts, one after the other; or of none such
 abbrev pub AllRead : {A : Type 0} → (A → List ℕ) → (A → Type 0) → List ℕ → Bool → Type 0
-AllRead {A} f P s true = (xs : List A) × (flat_map f xs ≡ s) × All P xs
-AllRead {A} f P s false = (xs : List A) → flat_map f xs ≡ s → All P xs → ⊥
+AllRead {A} f P s true = (xs : List A) × (flat_map f xs ≡ s) × AllByRecursion P xs
+AllRead {A} f P s false = (xs : List A) → flat_map f xs ≡ s → AllByRecursion P xs → ⊥
 
 -- how many parts of both kinds a claim has
 pub record HasShape (c : claims.Claim) (l : Shape) : Type 0 where

@@ -1,7 +1,7 @@
 -- Questions as words: how many names there are; and for each of the two claims how many same and other,
 -- how many cells and rows, and these, with three words each.
 use Rattle.std.specs.Prelude.{◌≡◌, ℕ, ◌<◌, ◌≤◌, List, [], ◌∷◌, ◌++◌, length}
-use Rattle.std.specs.List.{flat_map, AllByRecursion as All}
+use Rattle.std.specs.List.{flat_map, AllByRecursion}
 use Rattle.claims.specs.Claims.{Pure, same, other, Atom, cell, row, Claim, Question}
 
 abbrev pub pure_words : Pure → List ℕ
@@ -32,8 +32,8 @@ AtomBelow n (row x y) = (x < n) × (y < n)
 pub record Fits (n : ℕ) (c : Claim) : Type 0 where
   pub few_pures : length c.pures ≤ 256
   pub few_atoms : length c.atoms ≤ 64
-  pub pures_below : All (PureBelow n) c.pures
-  pub atoms_below : All (AtomBelow n) c.atoms
+  pub pures_below : AllByRecursion (PureBelow n) c.pures
+  pub atoms_below : AllByRecursion (AtomBelow n) c.atoms
 
 -- 1 to 64 names, and both claims within the limits
 pub record Limits (q : Question) : Type 0 where

@@ -3,7 +3,7 @@
 -- renamed_left, cancelled_left: one part is left; none_left: nothing is; two_left: two parts are.
 -- drawn_from, part_later: what is drawn from all atoms of a part, and the part where more is known.
 use Rattle.std.proofs.Common.{◌≡◌, ℕ, List, Some, None, Option, sym, refl, subst, subst₂, arith}
-use Rattle.std.specs.List.{AllByRecursion as All}
+use Rattle.std.specs.List.{AllByRecursion}
 use Rattle.claims.specs.Claims.{Atom}
 use Rattle.claims.specs.Memory.{Names}
 use Rattle.linked.specs.Knowing.{Agrees, Joined, Parted}
@@ -49,7 +49,7 @@ module _ (g : Goal) (k : Known) (p : Part) where
           no_more = omega (arith, left.no_more, cancelled.no_more);
         }
 
-    pub none_left : q.own.count ≡ 0 → q.wanted.count ≡ 0 → All (PureKnown k) (second_of g).pures → PartSettled g k p
+    pub none_left : q.own.count ≡ 0 → q.wanted.count ≡ 0 → AllByRecursion (PureKnown k) (second_of g).pures → PartSettled g k p
     none_left no_own no-wanted pures =
         left.settles
         (subst₂ (Closed g.names (first_of g) (second_of g) (Some k)) (sym (empty_list q.own no_own)) (sym (empty_list q.wanted no-wanted)) (nothing_left pures))

@@ -2,7 +2,7 @@
 --
 -- goal_settled: what the search settles follows; answered: what is told is the answer.
 use Rattle.std.proofs.Common.{◌≡◌, ℕ, ◌≤◌, List, arith}
-use Rattle.std.specs.List.{AllByRecursion as All}
+use Rattle.std.specs.List.{AllByRecursion}
 use Rattle.claims.specs.Words.{Limits, Reads}
 use Rattle.claims.specs.Memory.{Names, PureHolds}
 use Rattle.claims.proofs.ClaimWords.{one_question}
@@ -29,7 +29,7 @@ use Rattle.matching.proofs.Rules.{all_settled}
 
 pub goal_settled :
     (g : Goal) (k : Known) (p : Part) (t : Told) (r : Outcome) → Limits (question_of g) →
-    ((n : Names) → All (PureHolds n) (first_of g).pures → Agrees k n) → Whole g k p → Searched g k p t r → GoalSettled g t r
+    ((n : Names) → AllByRecursion (PureHolds n) (first_of g).pures → Agrees k n) → Whole g k p → Searched g k p t r → GoalSettled g t r
 goal_settled g k p t Settled limits all whole closed = λ n m s says.
     all_settled g.names (first_of g) (second_of g) limits.few_names (second_pures g limits) k (renamed whole.own whole.wanted closed) n m s (all n says.pures) says
 goal_settled g k p t Refuted limits all whole against = against

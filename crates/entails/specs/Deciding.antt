@@ -1,6 +1,6 @@
 -- What the call that decides promises.
 use Rattle.std.specs.Prelude.{◌≡◌, ℕ, ◌+◌, ◌*◌, ◌<◌, ◌≤◌, T, ◌↔◌, List, ◌++◌, length, take, drop, Some, None, Option}
-use Rattle.std.specs.List.{AllByRecursion as All}
+use Rattle.std.specs.List.{AllByRecursion}
 use Rattle.claims.specs.Claims as claims
 use Rattle.claims.specs.Words.{Reads, OneQuestion, PureBelow}
 use Rattle.claims.specs.Memory.{Names, Memory, sound, Says}
@@ -83,7 +83,7 @@ Answer s o p Few = p ≡ o
 -- what the rules settle of all atoms of two claims follows, wherever names agree with what is known
 abbrev pub RulesRight : Type 0
 RulesRight =
-    (m : ℕ) (c d : claims.Claim) → m ≤ 64 → All (PureBelow 64) d.pures → (k : Known) → Closed m c d (Some k) c.atoms d.atoms →
+    (m : ℕ) (c d : claims.Claim) → m ≤ 64 → AllByRecursion (PureBelow 64) d.pures → (k : Known) → Closed m c d (Some k) c.atoms d.atoms →
     (n : Names) (mem : Memory) → T (sound mem) → Agrees k n → Says n mem c → Says n mem d
 
 -- The theorems that the answers rest on.

@@ -1,6 +1,6 @@
 // Are the second claim's same and other known?
 ghost use Rattle.std.specs.Prelude.{◌≡◌, true, map};
-ghost use Rattle.std.specs.List.{AllByRecursion as All};
+ghost use Rattle.std.specs.List.{AllByRecursion};
 ghost use Rattle.claims.specs.Meaning.{pure_of};
 ghost use Rattle.claims.specs.Words.{PureBelow, Limits};
 ghost use Rattle.matching.specs.Rules.{PureKnown};
@@ -23,8 +23,8 @@ pub fn is_known(pure: Pure, known: &Known) -> bool
 
 // Are all of these known?
 fn all_known(pures: &[Pure], known: &Known) -> bool
-    requires { All (PureBelow 64) (map pure_of pures.now) }
-    ensures { result ≡ true → All (PureKnown known.now) (map pure_of pures.now) }
+    requires { AllByRecursion (PureBelow 64) (map pure_of pures.now) }
+    ensures { result ≡ true → AllByRecursion (PureKnown known.now) (map pure_of pures.now) }
 {
     for pure in pures {
         if !is_known(*pure, known) {
@@ -37,7 +37,7 @@ fn all_known(pures: &[Pure], known: &Known) -> bool
 // Are the second claim's?
 pub fn pures_match(goal: &Goal, known: &Known) -> bool
     requires { Limits (question_of goal.now) }
-    ensures { result ≡ true → All (PureKnown known.now) (second_of goal.now).pures }
+    ensures { result ≡ true → AllByRecursion (PureKnown known.now) (second_of goal.now).pures }
 {
     all_known(&goal.second.pures[0..goal.second.shape.pures], known)
 }

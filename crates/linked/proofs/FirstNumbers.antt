@@ -1,7 +1,7 @@
 -- Each name at the number of the one that stands for it: these names agree with what is known (`first_numbers_agree`), and where
 -- nothing forks, a claim holds of them and their generic memory (`generic_holds`).
 use Rattle.std.proofs.Common.{◌≡◌, ℕ, zero, suc, ◌<◌, ◌≤◌, true, not, List, [], length, get_or, sym, refl, ap, ◌∙◌, subst, zero-add, arith, eq-eqb}
-use Rattle.std.specs.List.{AllByRecursion as All}
+use Rattle.std.specs.List.{AllByRecursion}
 use Rattle.std.proofs.lemmas.List.FromFn.{get_or-map-range_with_len}
 use Rattle.std.proofs.ByRecursion.{All-get_or}
 use Rattle.std.proofs.lemmas.List.{get_or_default}
@@ -56,7 +56,7 @@ module _ (m : ℕ) (k : Known) (few : m ≤ 64) where
       ap not (ne_eqb (root k.stands x) (root k.stands y) (λ e. full (one_root x y b.0 b.1 e)))
 
   goes_out :
-      (cs : List Atom) → All (AtomBelow m) cs → (i : ℕ) (d : Atom) → i < length cs → (Empty (first_numbers m k) (get_or cs i d) → ⊥) →
+      (cs : List Atom) → AllByRecursion (AtomBelow m) cs → (i : ℕ) (d : Atom) → i < length cs → (Empty (first_numbers m k) (get_or cs i d) → ⊥) →
       GoesOut k cs (at (first_numbers m k) (start (get_or cs i d))) i
   goes_out cs below i d h full =
       let a = get_or cs i d in
@@ -65,7 +65,7 @@ module _ (m : ℕ) (k : Known) (few : m ≤ 64) where
       let p = subst P (get_or_default cs i d (row 0 0) h) (full_live a b full, sym (at-first_numbers m k (start a) (start_below a b) few)) in
       record { one = h; full = p.0; from = p.1 }
 
-  fork_free : (cs : List Atom) → All (AtomBelow m) cs → (Fork k cs → ⊥) → ForkFree (first_numbers m k) cs
+  fork_free : (cs : List Atom) → AllByRecursion (AtomBelow m) cs → (Fork k cs → ⊥) → ForkFree (first_numbers m k) cs
   fork_free cs below none =
       record {
         somewhere = λ i d h full e. none (from_nowhere i (subst (λ x. GoesOut k cs x i) e (goes_out cs below i d h full)));
@@ -89,7 +89,7 @@ generic_holds k cs none m ps few small below meets =
     }
 
 -- with all 64 names, and of the atoms alone
-pub generic_settled : (k : Known) (cs : List Atom) → All (AtomBelow 64) cs → (Fork k cs → ⊥) → SettledMemory k cs
+pub generic_settled : (k : Known) (cs : List Atom) → AllByRecursion (AtomBelow 64) cs → (Fork k cs → ⊥) → SettledMemory k cs
 generic_settled k cs below none =
     let g : Generic 64 k (record { pures = []; atoms = cs }) = generic_holds k cs none 64 [] (omega arith) tt below (λ n a. tt) in
     record { memory = generic (numbers k) cs; sound_m = g.is_sound; dealt = g.says.atoms; agrees = g.agrees; only_known = g.only_known }

@@ -1,6 +1,6 @@
 -- What is learnt of names from atoms: one more pair that is the same.
 use Rattle.std.proofs.Common.{◌≡◌, ℕ, ◌+◌, T, List, [], ◌∷◌, ◌++◌, take, Some, None, Option, subst}
-use Rattle.std.specs.List.{AllByRecursion as All}
+use Rattle.std.specs.List.{AllByRecursion}
 use Rattle.std.proofs.ByRecursion.{All-push, All-take}
 use Rattle.claims.specs.Claims.{Pure, same, other, Atom}
 use Rattle.claims.specs.Memory.{Names, at, Memory, sound, Dealt, PureHolds}
@@ -43,7 +43,7 @@ pub parted_assumed : (k : Known) (x y : ℕ) (r : Option Known) → Parted k x y
 parted_assumed k x y (Some j) f = f
 parted_assumed k x y None f = f
 
-pub all_last : {A : Type 0} (P : A → Type 0) (xs : List A) (x : A) → All P (xs ++ x ∷ []) → All P xs × P x
+pub all_last : {A : Type 0} (P : A → Type 0) (xs : List A) (x : A) → AllByRecursion P (xs ++ x ∷ []) → AllByRecursion P xs × P x
 all_last P [] x a = (tt, a.0)
 all_last P (y ∷ xs) x a = let r = all_last P xs x a.1 in ((a.0, r.0), r.1)
 
@@ -58,5 +58,5 @@ module _ (k j : Known) (ps : List Pure) (p : Pure) (so_far : Assumed ps k (Some 
   pub assumed_never :
       (all : List Pure) (i : ℕ) → AssumedOne p j None → take (i + 1) all ≡ ps ++ p ∷ [] → Assumed all k None
   assumed_never all i f e n g h =
-      let a = all_last (PureHolds n) ps p (subst (All (PureHolds n)) e (All-take (PureHolds n) (i + 1) all h)) in
+      let a = all_last (PureHolds n) ps p (subst (AllByRecursion (PureHolds n)) e (All-take (PureHolds n) (i + 1) all h)) in
       f n ((so_far n).1 (g, a.0)) a.1

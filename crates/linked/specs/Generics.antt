@@ -1,7 +1,7 @@
 -- Where nothing forks, there is a memory: each class of names at the number of the one that stands for it, and one cell
 -- for each atom that isn't known to be empty.
 use Rattle.std.specs.Prelude.{◌≡◌, ℕ, ◌<◌, ◌≤◌, Bool, true, false, not, T, List, map, length, slice_index_or}
-use Rattle.std.specs.List.{range_with_len, AllByRecursion as All}
+use Rattle.std.specs.List.{range_with_len, AllByRecursion}
 use Rattle.claims.specs.Claims.{Pure, Atom, cell, row, Claim}
 use Rattle.claims.specs.Memory.{Names, at, sound, Says}
 use Rattle.claims.specs.Words.{PureBelow, AtomBelow}
@@ -48,7 +48,7 @@ pub record Generic (m : ℕ) (k : Known) (c : Claim) : Type 0 where
 -- that is so of every claim over m names with these atoms whose same and other are known
 abbrev pub HoldsGeneric : Known → List Atom → Type 0
 HoldsGeneric k cs =
-    (m : ℕ) (ps : List Pure) → m ≤ 64 → All (PureBelow m) ps → All (AtomBelow m) cs → Meets k ps →
+    (m : ℕ) (ps : List Pure) → m ≤ 64 → AllByRecursion (PureBelow m) ps → AllByRecursion (AtomBelow m) cs → Meets k ps →
     Generic m k (record { pures = ps; atoms = cs })
 
 -- where nothing forks, these claims hold of their generic memories

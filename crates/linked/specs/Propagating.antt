@@ -1,6 +1,6 @@
 -- What propagation promises.
 use Rattle.std.specs.Prelude.{T, ◌↔◌, List, Some, None, Option}
-use Rattle.std.specs.List.{AllByRecursion as All}
+use Rattle.std.specs.List.{AllByRecursion}
 use Rattle.claims.specs.Claims.{Pure, Atom}
 use Rattle.claims.specs.Memory.{Names, Memory, sound, Dealt, PureHolds}
 use Rattle.linked.specs.Knowing.{Agrees}
@@ -23,18 +23,18 @@ AssumedOne p k None = (n : Names) → Agrees k n → PureHolds n p → ⊥
 
 -- exactly the names that agreed and of which all of these hold; or there are none
 abbrev pub Assumed : List Pure → Known → Option Known → Type 0
-Assumed ps k (Some j) = (n : Names) → Agrees j n ↔ (Agrees k n × All (PureHolds n) ps)
-Assumed ps k None = (n : Names) → Agrees k n → All (PureHolds n) ps → ⊥
+Assumed ps k (Some j) = (n : Names) → Agrees j n ↔ (Agrees k n × AllByRecursion (PureHolds n) ps)
+Assumed ps k None = (n : Names) → Agrees k n → AllByRecursion (PureHolds n) ps → ⊥
 
 -- names and memories of which a claim with these same and other, and these atoms, holds agree with what is known;
 -- or there are none
 abbrev pub Learnt : List Pure → List Atom → Option Known → Type 0
-Learnt ps cs (Some k) = (n : Names) (m : Memory) → T (sound m) → All (PureHolds n) ps → Dealt n cs m → Agrees k n
-Learnt ps cs None = (n : Names) (m : Memory) → T (sound m) → All (PureHolds n) ps → Dealt n cs m → ⊥
+Learnt ps cs (Some k) = (n : Names) (m : Memory) → T (sound m) → AllByRecursion (PureHolds n) ps → Dealt n cs m → Agrees k n
+Learnt ps cs None = (n : Names) (m : Memory) → T (sound m) → AllByRecursion (PureHolds n) ps → Dealt n cs m → ⊥
 
 -- all names that agree with what is known meet these
 abbrev pub Meets : Known → List Pure → Type 0
-Meets k ps = (n : Names) → Agrees k n → All (PureHolds n) ps
+Meets k ps = (n : Names) → Agrees k n → AllByRecursion (PureHolds n) ps
 
 abbrev pub AllMet : List Pure → Option Known → Type 0
 AllMet ps (Some k) = Meets k ps
@@ -42,5 +42,5 @@ AllMet ps None = Unit {0}
 
 -- both, of what is known
 pub record LearntKnown (ps : List Pure) (cs : List Atom) (k : Known) : Type 0 where
-  pub forth : (n : Names) (m : Memory) → T (sound m) → All (PureHolds n) ps → Dealt n cs m → Agrees k n
+  pub forth : (n : Names) (m : Memory) → T (sound m) → AllByRecursion (PureHolds n) ps → Dealt n cs m → Agrees k n
   pub back : Meets k ps

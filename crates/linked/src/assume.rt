@@ -1,6 +1,6 @@
 // What is known of names from a claim's same and other.
 ghost use Rattle.std.specs.Prelude.{◌<◌, map};
-ghost use Rattle.std.specs.List.{AllByRecursion as All};
+ghost use Rattle.std.specs.List.{AllByRecursion};
 ghost use Rattle.claims.specs.Meaning.{pure_of};
 ghost use Rattle.claims.specs.Words.{PureBelow};
 ghost use Rattle.linked.specs.Propagating.{Assumed, AssumedOne};
@@ -10,7 +10,7 @@ use claims::Pure;
 
 // What is known if these hold too, or nothing if they can't.
 pub fn assume(pures: &[Pure], mut known: Known) -> Option<Known>
-    requires { All (PureBelow 64) (map pure_of pures.now) }
+    requires { AllByRecursion (PureBelow 64) (map pure_of pures.now) }
     ensures { Assumed (map pure_of pures.now) known result }
 {
     for pure in pures {

@@ -1,7 +1,7 @@
 // Does nothing fork? Then a claim with these cells and rows holds of a memory with one cell for each that isn't known
 // to be empty, and in which names are the same only where that is known.
 ghost use Rattle.std.specs.Prelude.{◌≡◌, ℕ, ◌<◌, true, false, map, ◌≢◌};
-ghost use Rattle.std.specs.List.{AllByRecursion as All};
+ghost use Rattle.std.specs.List.{AllByRecursion};
 ghost use Rattle.claims.specs.Meaning.{atom_of};
 ghost use Rattle.claims.specs.Words.{AtomBelow};
 ghost use Rattle.linked.specs.Forking.{begin_of, HasGeneric, SettledMemory};
@@ -64,7 +64,7 @@ fn is_live(atom: Atom, known: &Known) -> bool
 
 // Do all cells and rows that are not known to be empty begin somewhere, and no two of them at one place?
 pub fn is_forkless(atoms: &[Atom], known: &Known) -> bool
-    requires { All (AtomBelow 64) (map atom_of atoms.now) }
+    requires { AllByRecursion (AtomBelow 64) (map atom_of atoms.now) }
     ensures exact { Forkless known.now (map atom_of atoms.now) result }
     ensures settled { result ≡ true → SettledMemory known.now (map atom_of atoms.now) }
     ensures generic { result ≡ true → HoldsGeneric known.now (map atom_of atoms.now) }

@@ -1,6 +1,6 @@
 // What must be the same and what can't be, from a whole claim.
 ghost use Rattle.std.specs.Prelude.{◌≤◌, map, length};
-ghost use Rattle.std.specs.List.{AllByRecursion as All};
+ghost use Rattle.std.specs.List.{AllByRecursion};
 ghost use Rattle.claims.specs.Meaning.{pure_of, atom_of, question_of};
 ghost use Rattle.claims.specs.Words.{PureBelow, AtomBelow, Limits};
 ghost use Rattle.linked.specs.Propagating.{Learnt, AllMet};
@@ -13,8 +13,8 @@ use claims::{Atom, Pure, Question};
 // What is known of names wherever the claim holds, or nothing if it can't.
 pub fn learn(pures: &[Pure], atoms: &[Atom]) -> Option<Known>
     requires few { length atoms.now ≤ 64 }
-    requires small_pures { All (PureBelow 64) (map pure_of pures.now) }
-    requires small_atoms { All (AtomBelow 64) (map atom_of atoms.now) }
+    requires small_pures { AllByRecursion (PureBelow 64) (map pure_of pures.now) }
+    requires small_atoms { AllByRecursion (AtomBelow 64) (map atom_of atoms.now) }
     ensures learnt { Learnt (map pure_of pures.now) (map atom_of atoms.now) result }
     ensures met { AllMet (map pure_of pures.now) result }
 {

@@ -1,6 +1,6 @@
 // The cells and rows of a claim by the names that stand for their ends, without the rows that are known to be empty.
 ghost use Rattle.std.specs.Prelude.{◌≡◌, ℕ, ◌<◌, ◌≤◌, true, map, length, slice_index_or};
-ghost use Rattle.std.specs.List.{AllByRecursion as All};
+ghost use Rattle.std.specs.List.{AllByRecursion};
 ghost use Rattle.claims.specs.Meaning.{atom_of};
 ghost use Rattle.claims.specs.Memory.{Names};
 ghost use Rattle.claims.specs.Claims.{Atom as ClaimAtom};
@@ -47,7 +47,7 @@ impl Live {
     // The atoms that are live, of those that are given.
     pub fn of(atoms: &[Atom], known: &Known) -> Live
         requires few { length atoms.now ≤ 64 }
-        requires small { All (AtomBelow 64) (map atom_of atoms.now) }
+        requires small { AllByRecursion (AtomBelow 64) (map atom_of atoms.now) }
         ensures lives { Lives known.now (map atom_of atoms.now) (atoms_of result) }
         ensures no_more { result.count ≤ length atoms.now }
     {

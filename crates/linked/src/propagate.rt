@@ -1,6 +1,6 @@
 // What must be the same, from a claim: till nothing new comes.
 ghost use Rattle.std.specs.Prelude.{ℕ, ◌<◌, ◌≤◌, map, length};
-ghost use Rattle.std.specs.List.{AllByRecursion as All};
+ghost use Rattle.std.specs.List.{AllByRecursion};
 ghost use Rattle.claims.specs.Meaning.{atom_of};
 ghost use Rattle.claims.specs.Words.{AtomBelow};
 ghost use Rattle.linked.specs.Knowing.{NoMore};
@@ -15,7 +15,7 @@ use claims::Atom;
 // if that can't be.
 pub fn propagate(atoms: &[Atom], mut known: Known) -> Option<Known>
     requires few { length atoms.now ≤ 64 }
-    requires small { All (AtomBelow 64) (map atom_of atoms.now) }
+    requires small { AllByRecursion (AtomBelow 64) (map atom_of atoms.now) }
     ensures propagated { Propagated (map atom_of atoms.now) known result }
     ensures no_more { NoMore known result }
 {

@@ -3,7 +3,7 @@
 -- live_push: one atom more; list_on: as far as an index; below_64: their names are below 64.
 -- parts_left, parts_right: one more in a part; unmarked_on, unmarked_past: one more that isn't marked, or is.
 use Rattle.std.proofs.Common.{◌≡◌, ℕ, zero, suc, ◌+◌, ◌-◌, ◌<◌, ◌≤◌, List, [], ◌∷◌, ◌++◌, map, length, get_or, take, sym, refl, ap, ◌∙◌, subst, subst₂, arith}
-use Rattle.std.specs.List.{AllByRecursion as All}
+use Rattle.std.specs.List.{AllByRecursion}
 use Rattle.std.proofs.lemmas.List.{map_push, take_more, length-take-le}
 use Rattle.std.proofs.ByRecursion.{All-from_get_or}
 use Rattle.claims.specs.Claims.{Atom, cell, row}
@@ -24,8 +24,8 @@ front n s = let e : n - 0 ≡ n = omega arith in ap (λ i. take i s) e
 
 -- what holds of all of it
 pub front_all :
-    {A : Type 0} (P : A → Type 0) {X : Type 0} (f : X → A) (n : ℕ) (xs : List X) → All P (map f (take n xs)) → All P (map f (take (n - 0) xs))
-front_all P f n xs h = subst (λ u. All P (map f u)) (sym (front n xs)) h
+    {A : Type 0} (P : A → Type 0) {X : Type 0} (f : X → A) (n : ℕ) (xs : List X) → AllByRecursion P (map f (take n xs)) → AllByRecursion P (map f (take (n - 0) xs))
+front_all P f n xs h = subst (λ u. AllByRecursion P (map f u)) (sym (front n xs)) h
 
 pub live_push :
     (l r : Live) (a : CodeAtom) → take r.count r.atoms ≡ take l.count l.atoms ++ a ∷ [] →
@@ -121,7 +121,7 @@ atom_small : (a : Atom) → start a < 64 → end a < 64 → AtomBelow 64 a
 atom_small (cell x y) hs he = (hs, he)
 atom_small (row x y) hs he = (hs, he)
 
-pub below_64 : (l : Live) → All (AtomBelow 64) (atoms_of l)
+pub below_64 : (l : Live) → AllByRecursion (AtomBelow 64) (atoms_of l)
 below_64 l =
     All-from_get_or (AtomBelow 64) (atoms_of l) (row 0 0) λ i h.
     let within : i < l.count = omega (arith, live-length l) in

@@ -3,7 +3,7 @@
 -- made_dealt: what an atom is made of can be taken out as that atom; parts_dealt, dealt_parts: so can parts of a list.
 -- closed_holds: what the rules say is so; all_settled: so the second claim holds wherever the first does.
 use Rattle.std.proofs.Common.{◌≡◌, ℕ, ◌<◌, ◌≤◌, Bool, true, false, not, ◌&&◌, T, List, [], ◌∷◌, length, get_or, Some, None, Option, sym, refl, ap, ◌∙◌, subst, inl, inr, ⊎_elim, arith}
-use Rattle.std.specs.List.{AllByRecursion as All}
+use Rattle.std.specs.List.{AllByRecursion}
 use Rattle.std.proofs.lemmas.Bool.{both_ways, cases_eq, eqb-true, ne_eqb}
 use Rattle.claims.specs.Claims.{Pure, same, other, Atom, row, Claim}
 use Rattle.claims.specs.Words.{PureBelow}
@@ -76,7 +76,7 @@ dealt_parts (right_p u) t da (one_more v h db) =
     one_more v1 h (dealt_parts u (parts_comm v2) da db)
 
 -- what is known of the pures holds
-pures_hold : (k : Known) (n : Names) → Agrees k n → (ps : List Pure) → All (PureBelow 64) ps → All (PureKnown k) ps → All (PureHolds n) ps
+pures_hold : (k : Known) (n : Names) → Agrees k n → (ps : List Pure) → AllByRecursion (PureBelow 64) ps → AllByRecursion (PureKnown k) ps → AllByRecursion (PureHolds n) ps
 pures_hold k n g [] below h = tt
 pures_hold k n g (same x y ∷ ps) below h = (
   same_known k x y below.0.0 below.0.1 n g (eqb-true (root k.stands x) (root k.stands y) h.0),
@@ -108,7 +108,7 @@ total_like m k g n small total stands agrees x y lx ly =
           (cases_eq (root k.stands x) (root k.stands y))),
     )
 
-module _ (m : ℕ) (c d : Claim) (small : m ≤ 64) (d-pures : All (PureBelow 64) d.pures) where
+module _ (m : ℕ) (c d : Claim) (small : m ≤ 64) (d-pures : AllByRecursion (PureBelow 64) d.pures) where
   module _ (os ws : List Atom) where
     drawn_holds : (k : Known) (r : Option Known) → Propagated c.atoms k r → HoldsFor c d r os ws → HoldsFor c d (Some k) os ws
     drawn_holds k None p h n mem s g says = absurd (p n mem s says.atoms g)
@@ -176,7 +176,7 @@ module _ (m : ℕ) (c d : Claim) (small : m ≤ 64) (d-pures : All (PureBelow 64
       go (inr _) (inl all) = inl all
       go (inr met) (inr more) = inr (met.0, step met.1 more.1)
 
-  nothing_holds : (k : Known) → All (PureKnown k) d.pures → HoldsFor c d (Some k) [] []
+  nothing_holds : (k : Known) → AllByRecursion (PureKnown k) d.pures → HoldsFor c d (Some k) [] []
   nothing_holds k pures n mem s g says = inr (pures_hold k n g d.pures d-pures pures, λ p e t o. o)
 
   pattern_holds :

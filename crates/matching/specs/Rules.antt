@@ -1,7 +1,7 @@
 -- Why the second claim holds wherever the first does and names agree with what is known: the rules by which a search
 -- may say so. That they are right is one theorem (`closed_holds`); which of them are tried, and in which order, is free.
 use Rattle.std.specs.Prelude.{◌≡◌, ℕ, ◌<◌, true, false, T, ◌⊎◌, List, [], length, Some, None, Option, slice_index_or}
-use Rattle.std.specs.List.{AllByRecursion as All}
+use Rattle.std.specs.List.{AllByRecursion}
 use Rattle.claims.specs.Claims.{Pure, same, other, Atom, cell, row, Claim}
 use Rattle.claims.specs.Memory.{Names, at, Memory, sound, Parts, PureHolds, Dealt, Says}
 use Rattle.memory.specs.Owners.{start, end}
@@ -20,7 +20,7 @@ PureKnown k (same x y) = known_same k x y ≡ true
 PureKnown k (other x y) = known_other k x y ≡ true
 
 -- A row from s to t is made of atoms among rs, each once, and leaves the others, qs. They stand one behind the other, and the
--- place of t is never one of their cells: else the row would have to stop there. All of the claim's atoms are ls.
+-- place of t is never one of their cells: else the row would have to stop there. AllByRecursion of the claim's atoms are ls.
 pub data MadeOf (k : Known) (ls : List Atom) (t : ℕ) : ℕ → List Atom → List Atom → Type 0 where
   arrived : {s : ℕ} {rs : List Atom} → s ≡ t → MadeOf k ls t s rs rs
   over :
@@ -35,14 +35,14 @@ pub data Made (k : Known) (ls : List Atom) : Atom → List Atom → List Atom �
 -- each name below m at the number of the one that stands for it, and all names at places below m
 pub record StandsAt (m : ℕ) (k : Known) (g : Names) : Type 0 where
   pub rooted : (x : ℕ) → x < m → at g x ≡ root k.stands x
-  pub below : All (λ p. p < m) g
+  pub below : AllByRecursion (λ p. p < m) g
 
 -- of any two names below m it is known whether they are the same
 abbrev pub Total : ℕ → Known → Type 0
 Total m k = (x y : ℕ) → x < m → y < m → undecided k x y ≡ false
 
 -- Over m names, with the first claim c and the second d: wherever names agree with what is known (None: there are no such
--- names), d holds, or the part of memory that is the atoms' os is also the atoms' ws. All of d is settled when that is so of
+-- names), d holds, or the part of memory that is the atoms' os is also the atoms' ws. AllByRecursion of d is settled when that is so of
 -- the atoms of c and those of d.
 pub data Closed (m : ℕ) (c d : Claim) : Option Known → List Atom → List Atom → Type 0 where
   no_names : {os ws : List Atom} → Closed m c d None os ws
@@ -67,7 +67,7 @@ pub data Closed (m : ℕ) (c d : Claim) : Option Known → List Atom → List At
       {k : Known} {os ps qs ws us vs : List Atom} → Parts ps qs os → Parts us vs ws → Closed m c d (Some k) ps us →
       Closed m c d (Some k) qs vs → Closed m c d (Some k) os ws
   -- nothing is left, and the second claim's same and other are known
-  nothing_left : {k : Known} → All (PureKnown k) d.pures → Closed m c d (Some k) [] []
+  nothing_left : {k : Known} → AllByRecursion (PureKnown k) d.pures → Closed m c d (Some k) [] []
   -- all is known of the names, and for this one pattern it follows
   pattern :
       {k : Known} {g : Names} {os ws : List Atom} → Total m k → StandsAt m k g → FollowsLike m g c d →
@@ -76,7 +76,7 @@ pub data Closed (m : ℕ) (c d : Claim) : Option Known → List Atom → List At
 -- d holds of these names and this memory; or its same and other hold, and the part that is the atoms' os is also the atoms' ws
 abbrev pub Met : Claim → List Atom → List Atom → Names → Memory → Type 0
 Met d os ws n m =
-    Says n m d ⊎ (All (PureHolds n) d.pures × ((p e : Memory) → Parts p e m → Dealt n os p → Dealt n ws p))
+    Says n m d ⊎ (AllByRecursion (PureHolds n) d.pures × ((p e : Memory) → Parts p e m → Dealt n os p → Dealt n ws p))
 
 -- what the rules say
 abbrev pub HoldsFor : Claim → Claim → Option Known → List Atom → List Atom → Type 0

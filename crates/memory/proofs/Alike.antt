@@ -2,7 +2,7 @@
 --
 -- pure_alike, atom_alike and dealt_alike; says_alike: a claim over k names holds of both or of neither.
 use Rattle.std.proofs.Common.{◌≡◌, ℕ, ◌<◌, List, [], ◌∷◌, sym, ◌∙◌}
-use Rattle.std.specs.List.{AllByRecursion as All}
+use Rattle.std.specs.List.{AllByRecursion}
 use Rattle.claims.specs.Claims.{Pure, same, other, Atom, cell, row, Claim}
 use Rattle.claims.specs.Words.{PureBelow, AtomBelow, Fits}
 use Rattle.claims.specs.Memory.{Names, at, Memory, PureHolds, AtomHolds, Dealt, no_more, one_more, Says}
@@ -19,7 +19,7 @@ module _ (k : ℕ) (n n' : Names) (alike : Alike k n n') where
   pure_alike (same x y) b h = sym (alike x b.0) ∙ (h ∙ alike y b.1)
   pure_alike (other x y) b h = λ e. h (alike x b.0 ∙ (e ∙ sym (alike y b.1)))
 
-  pub pures_alike : (fs : List Pure) → All (PureBelow k) fs → All (PureHolds n) fs → All (PureHolds n') fs
+  pub pures_alike : (fs : List Pure) → AllByRecursion (PureBelow k) fs → AllByRecursion (PureHolds n) fs → AllByRecursion (PureHolds n') fs
   pures_alike [] b h = tt
   pures_alike (f ∷ fs) b h = (pure_alike f b.0 h.0, pures_alike fs b.1 h.1)
 
@@ -27,7 +27,7 @@ module _ (k : ℕ) (n n' : Names) (alike : Alike k n n') where
   atom_alike (cell x y) m b h = rw (← alike x b.0, ← alike y b.1) h
   atom_alike (row x y) m b h = rw (← alike x b.0, ← alike y b.1) h
 
-  pub dealt_alike : {cs : List Atom} {m : Memory} → All (AtomBelow k) cs → Dealt n cs m → Dealt n' cs m
+  pub dealt_alike : {cs : List Atom} {m : Memory} → AllByRecursion (AtomBelow k) cs → Dealt n cs m → Dealt n' cs m
   dealt_alike b no_more = no_more
   dealt_alike b (one_more {a = x} {part = part} t h d) = one_more t (atom_alike x part b.0 h) (dealt_alike b.1 d)
 

@@ -4,7 +4,7 @@
 -- dealt_rest: if the first atoms are dealt out and all can be, then the others can be dealt what is left.
 -- false_fails, stuck_fails and left_fails: the claim does not hold, for each of the three reasons.
 use Rattle.std.proofs.Common.{◌≡◌, ℕ, ◌+◌, ◌<◌, T, List, [], ◌∷◌, ◌++◌, length, get_or, take, drop, sym, ap, ◌∙◌, subst, arith}
-use Rattle.std.specs.List.{AllByRecursion as All}
+use Rattle.std.specs.List.{AllByRecursion}
 use Rattle.std.proofs.lemmas.List.{take-append-drop, take_more, drop_more}
 use Rattle.std.proofs.ByRecursion.{All-get_or}
 use Rattle.claims.specs.Claims.{Pure, same, Atom, row}
@@ -55,7 +55,7 @@ dealt_rest {n} {ys = ys} s t (one_more {a = a} {more = more} u h c) (one_more v 
     let same = atom_rest n a s (record { part = _; parts = v; is = k }) (record { part = _; parts = w; is = h }) in
     dealt_rest (sound_right w s) x c (subst (λ y. Dealt n (more ++ ys) y) same d)
 
-pub false_fails : (n : Names) (fs : List Pure) (i : ℕ) → FirstFalse n fs i → All (PureHolds n) fs → ⊥
+pub false_fails : (n : Names) (fs : List Pure) (i : ℕ) → FirstFalse n fs i → AllByRecursion (PureHolds n) fs → ⊥
 false_fails n fs i f h = f.fails (same 0 0) (All-get_or (PureHolds n) fs i (same 0 0) f.within h)
 
 pub stuck_fails : (n : Names) (m : Memory) (xs : List Atom) (i b : ℕ) → T (sound m) → AtomsStuck n m xs i b → Dealt n xs m → ⊥

@@ -1,6 +1,6 @@
 -- From what the code has found to what it answers: each way of `first_false`, `deal` and `holds`.
 use Rattle.std.proofs.Common.{◌≡◌, ℕ, ◌+◌, ◌/◌, ◌<◌, ◌≤◌, T, List, map, length, get_or, take, set, sym, ◌∙◌, subst, arith}
-use Rattle.std.specs.List.{AllByRecursion as All}
+use Rattle.std.specs.List.{AllByRecursion}
 use Rattle.std.proofs.lemmas.List.{get_or-map, length-map, take_all}
 use Rattle.std.proofs.ByRecursion.{All-more}
 use Rattle.claims.specs.Claims as claims
@@ -27,14 +27,14 @@ no_pure = Same (record { 0 = 0 }) (record { 0 = 0 })
 abbrev pub no_atom : Atom
 no_atom = Cell (record { 0 = 0 }) (record { 0 = 0 })
 
-module _ (n : Names) (ps : List Pure) (i : ℕ) (within : i < length ps) (before : All (PureHolds n) (take i (map pure_of ps))) where
+module _ (n : Names) (ps : List Pure) (i : ℕ) (within : i < length ps) (before : AllByRecursion (PureHolds n) (take i (map pure_of ps))) where
   this_pure : (d : claims.Pure) → get_or (map pure_of ps) i d ≡ pure_of (get_or ps i no_pure)
   this_pure d = get_or-map pure_of ps i no_pure d within
 
   long : i < length (map pure_of ps)
   long = omega (arith, length-map ps pure_of)
 
-  pub pure_true : PureHolds n (pure_of (get_or ps i no_pure)) → All (PureHolds n) (take (i + 1) (map pure_of ps))
+  pub pure_true : PureHolds n (pure_of (get_or ps i no_pure)) → AllByRecursion (PureHolds n) (take (i + 1) (map pure_of ps))
   pure_true h =
       let d = claims.same 0 0 in
       All-more (PureHolds n) (map pure_of ps) i d long before (subst (λ f. PureHolds n f) (sym (this_pure d)) h)
@@ -44,8 +44,8 @@ module _ (n : Names) (ps : List Pure) (i : ℕ) (within : i < length ps) (before
       record { within = long; before = before; fails = λ d k. h (subst (λ f. PureHolds n f) (this_pure d) k) }
 
 pub pures_true :
-    (n : Names) (ps : List Pure) (i : ℕ) → length ps ≤ i → All (PureHolds n) (take i (map pure_of ps)) →
-    All (PureHolds n) (map pure_of ps)
+    (n : Names) (ps : List Pure) (i : ℕ) → length ps ≤ i → AllByRecursion (PureHolds n) (take i (map pure_of ps)) →
+    AllByRecursion (PureHolds n) (map pure_of ps)
 pures_true n ps i h all = rw (take_all i (map pure_of ps) (omega (arith, length-map ps pure_of))) at all
 
 module _ (n : Names) (m : Memory) (xs : List Atom) (i : ℕ) (e : Memory) (before : Deals n m (map atom_of xs) i e) where
@@ -68,7 +68,7 @@ module _ (n : Names) (s : List ℕ) (ps : List Pure) (xs : List Atom) (is_sound 
   pub fails_pure : (i : ℕ) → FirstFalse n (map pure_of ps) i → FailsFor n (memory_of s) (claim_from ps xs) (why.Pure i)
   fails_pure i f = record { fails = λ h. false_fails n (map pure_of ps) i f h.pures; why_true = f }
 
-  module _ (true-pures : All (PureHolds n) (map pure_of ps)) where
+  module _ (true-pures : AllByRecursion (PureHolds n) (map pure_of ps)) where
     pub fails_stuck :
         (i : ℕ) (b : Place) → AtomsStuck n (memory_of s) (map atom_of xs) i b.0 →
         FailsFor n (memory_of s) (claim_from ps xs) (why.Stuck i b)

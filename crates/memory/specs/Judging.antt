@@ -1,6 +1,6 @@
 -- Does a claim hold of names and a memory, and if not, why not.
 use Rattle.std.specs.Prelude.{◌≡◌, ℕ, ◌<◌, List, [], ◌∷◌, map, length, take, Some, None, Ok, Err, Option, Result, ◌≢◌, slice_index, slice_index_or}
-use Rattle.std.specs.List.{AllByRecursion as All}
+use Rattle.std.specs.List.{AllByRecursion}
 use Rattle.claims.specs.Claims as claims
 use Rattle.claims.specs.Memory.{Names, Cell, Memory, Parts, Dealt, PureHolds, Says}
 use Rattle.claims.specs.Meaning.{pure_of, atom_of}
@@ -18,7 +18,7 @@ claim_from ps xs = record { pures = map pure_of ps; atoms = map atom_of xs }
 -- the same or other number i is false, and those before it are true
 pub record FirstFalse (n : Names) (fs : List claims.Pure) (i : ℕ) : Type 0 where
   pub within : i < length fs
-  pub before : All (PureHolds n) (take i fs)
+  pub before : AllByRecursion (PureHolds n) (take i fs)
   pub fails : (d : claims.Pure) → PureHolds n (slice_index_or fs i d) → ⊥
 
 -- the first i atoms are dealt out to a part of m, and leave a rest that the atom number i can't be taken out of
@@ -43,8 +43,8 @@ pub record AtomsLeave (n : Names) (m : Memory) (xs : List claims.Atom) (j : ℕ)
 -- what each answer says of the question
 abbrev pub WhyTrue : Names → Memory → claims.Claim → Why → Type 0
 WhyTrue n m c (Pure i) = FirstFalse n c.pures i
-WhyTrue n m c (Stuck i p) = All (PureHolds n) c.pures × AtomsStuck n m c.atoms i p.0
-WhyTrue n m c (LeftOver j) = All (PureHolds n) c.pures × AtomsLeave n m c.atoms j
+WhyTrue n m c (Stuck i p) = AllByRecursion (PureHolds n) c.pures × AtomsStuck n m c.atoms i p.0
+WhyTrue n m c (LeftOver j) = AllByRecursion (PureHolds n) c.pures × AtomsLeave n m c.atoms j
 
 -- the claim doesn't hold, and that is why
 pub record FailsFor (n : Names) (m : Memory) (c : claims.Claim) (why : Why) : Type 0 where
@@ -59,7 +59,7 @@ Judged n m c (Err why) = FailsFor n m c why
 -- the first that is false, or all are true
 abbrev pub FalseFound : Names → List claims.Pure → Option ℕ → Type 0
 FalseFound n fs (Some i) = FirstFalse n fs i
-FalseFound n fs None = All (PureHolds n) fs
+FalseFound n fs None = AllByRecursion (PureHolds n) fs
 
 -- the first i atoms are dealt out to a part of m, and leave e
 pub record Deals (n : Names) (m : Memory) (xs : List claims.Atom) (i : ℕ) (e : Memory) : Type 0 where

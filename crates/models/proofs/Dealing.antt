@@ -4,7 +4,7 @@
 -- dealt_each: what holds of every atom that has its place in a memory holds of each.
 -- each_take_out: any atom of the list can be taken out with its part.
 use Rattle.std.proofs.Common.{List, [], ◌∷◌}
-use Rattle.std.specs.List.{AllByRecursion as All}
+use Rattle.std.specs.List.{AllByRecursion}
 use Rattle.claims.specs.Claims.{Atom}
 use Rattle.claims.specs.Memory.{Names, Memory, Parts, Dealt, no_more, one_more}
 use Rattle.memory.specs.Taking.{Takes, Put, put_here, put_later}
@@ -49,6 +49,6 @@ each_take_out (put_later u) (one_each t h d) =
     (g, record { part = out.part; parts = g1; is = out.is }, one_each (parts_comm g2) h k)
 
 -- what holds of each element holds of one, and of each other
-pub all_put : {A : Type 0} {a : A} {cs ds : List A} (P : A → Type 0) → Put a cs ds → All P ds → P a × All P cs
+pub all_put : {A : Type 0} {a : A} {cs ds : List A} (P : A → Type 0) → Put a cs ds → AllByRecursion P ds → P a × AllByRecursion P cs
 all_put P put_here h = h
 all_put P (put_later u) h = let (p, q) = all_put P u h.1 in (p, (h.0, q))

@@ -3,7 +3,7 @@
 -- row_decided, atom_decided: whether a row, or an atom, can be taken out of a memory.
 -- dealt_decided: whether the memory is dealt out to atoms; says_decided: whether a claim holds.
 use Rattle.std.proofs.Common.{◌≡◌, ℕ, zero, suc, ◌≤◌, true, false, T, ◌⊎◌, List, [], ◌∷◌, length, refl, ap, inl, inr, ⊎_elim, arith}
-use Rattle.std.specs.List.{AllByRecursion as All}
+use Rattle.std.specs.List.{AllByRecursion}
 use Rattle.std.proofs.lemmas.Bool.{both_ways, cases_eq, cases_Bool}
 use Rattle.claims.specs.Claims.{Pure, same, other, Atom, cell, row, Claim}
 use Rattle.claims.specs.Memory.{Names, at, Cell, Memory, here, sound, IsRow, PureHolds, AtomHolds, Dealt, no_more, Says}
@@ -94,7 +94,7 @@ pub pure_decided : (n : Names) (f : Pure) → Decided (PureHolds n f)
 pure_decided n (same x y) = cases_eq (at n x) (at n y)
 pure_decided n (other x y) = ⊎_elim (λ e. inr (λ ne. ne e)) inl (cases_eq (at n x) (at n y))
 
-pub pures_decided : (n : Names) (fs : List Pure) → Decided (All (PureHolds n) fs)
+pub pures_decided : (n : Names) (fs : List Pure) → Decided (AllByRecursion (PureHolds n) fs)
 pures_decided n [] = inl tt
 pures_decided n (f ∷ fs) = decided_both (pure_decided n f) (pures_decided n fs)
 

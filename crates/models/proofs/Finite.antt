@@ -2,7 +2,7 @@
 --
 -- below_either: for the numbers below b; lists_either: for the lists of k numbers below b.
 use Rattle.std.proofs.Common.{◌≡◌, ℕ, zero, suc, ◌<◌, ◌⊎◌, List, [], ◌∷◌, length, refl, ap, inl, inr, ⊎_elim, arith}
-use Rattle.std.specs.List.{AllByRecursion as All}
+use Rattle.std.specs.List.{AllByRecursion}
 use Rattle.std.proofs.lemmas.Bool.{cases_eq}
 
 -- go on if it holds
@@ -23,7 +23,7 @@ only_none P p (x ∷ g) len = absurd (omega arith)
 
 -- P holds of all lists of k numbers below b
 abbrev pub AllLists : (List ℕ → Type 0) → ℕ → ℕ → Type 0
-AllLists P b k = (g : List ℕ) → length g ≡ k → All (λ p. p < b) g → P g
+AllLists P b k = (g : List ℕ) → length g ≡ k → AllByRecursion (λ p. p < b) g → P g
 
 all_first : (P : List ℕ → Type 0) (b k : ℕ) → ((x : ℕ) → x < b → AllLists (λ g. P (x ∷ g)) b k) → AllLists P b (suc k)
 all_first P b k f [] len below = absurd (omega arith)

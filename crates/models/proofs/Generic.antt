@@ -5,7 +5,7 @@
 -- generic_places: if the atoms hold of names alike, then these have a cell at each name where the generic memory has one.
 -- generic_sound, generic_dealt: so the generic memory is sound, and is dealt out to the atoms.
 use Rattle.std.proofs.Common.{◌≡◌, ℕ, ◌<◌, ◌≤◌, true, T, List, [], ◌∷◌, ◌++◌, sym, refl, ap, ◌∙◌, ⊎_elim}
-use Rattle.std.specs.List.{AllByRecursion as All}
+use Rattle.std.specs.List.{AllByRecursion}
 use Rattle.std.proofs.lemmas.Bool.{both_ways, cases_eq, eq-eqb, ne_eqb, false≢true}
 use Rattle.claims.specs.Claims.{Atom, cell, row}
 use Rattle.claims.specs.Words.{AtomBelow}
@@ -95,7 +95,7 @@ module _ (k : ℕ) (g n : Names) (some_names : 1 ≤ k) (like : Like k g n) wher
   full_start a part below full h = ⊎_elim (λ e. absurd (full ((like_empty k g n like a below).1 e))) (λ p. p) (atom_start n a part h)
 
   pub generic_places :
-      {cs : List Atom} {b : Memory} → All (AtomBelow k) cs → Dealt n cs b → (x : ℕ) → x < k →
+      {cs : List Atom} {b : Memory} → AllByRecursion (AtomBelow k) cs → Dealt n cs b → (x : ℕ) → x < k →
       here (at g x) (generic g cs) ≡ true → here (at n x) b ≡ true
   generic_places below no_more x l p = absurd (false≢true p)
   generic_places {cs = a ∷ cs} {b} below (one_more {part = part} t h d) x l p =
@@ -113,7 +113,7 @@ module _ (k : ℕ) (g n : Names) (some_names : 1 ≤ k) (like : Like k g n) wher
           ⊎_elim (own full) later found
 
   pub generic_sound :
-      {cs : List Atom} {b : Memory} → All (AtomBelow k) cs → T (sound b) → Dealt n cs b → T (sound (generic g cs))
+      {cs : List Atom} {b : Memory} → AllByRecursion (AtomBelow k) cs → T (sound b) → Dealt n cs b → T (sound (generic g cs))
   generic_sound below s no_more = tt
   generic_sound {cs = a ∷ cs} below s (one_more {part = part} {rest = rest} t h d) =
       go (generic_sound below.1 (sound_right t s) d) (linked_cases g a)

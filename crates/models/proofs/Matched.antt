@@ -6,7 +6,7 @@
 -- can_have_or_stretches: if an atom cannot have another's part, then that is a row, and stretches through a place
 -- where the first never has a cell; unmatched: then the stretched memory is against it.
 use Rattle.std.proofs.Common.{◌≡◌, ℕ, ◌<◌, ◌≤◌, true, false, T, ◌⊎◌, List, refl, ap, inl, inr, ⊎_elim, arith}
-use Rattle.std.specs.List.{AllByRecursion as All}
+use Rattle.std.specs.List.{AllByRecursion}
 use Rattle.std.proofs.lemmas.Bool.{both_ways, cases_eq, cases_Bool}
 use Rattle.claims.specs.Claims.{Atom, cell, row, Claim}
 use Rattle.claims.specs.Words.{AtomBelow, Fits}
@@ -46,7 +46,7 @@ module _
         let out = rw (linked_full g y full) at (generic_out g placed.put) in
         ⊎_elim (λ own. absurd (elsewhere (here_only (at g t) (link g y) own))) (other others-Below) (here_either out (at g t) h)
       where
-        other : All (AtomBelow k) placed.others → here (at g t) (generic g placed.others) ≡ true → here (at n t) part ≡ false
+        other : AllByRecursion (AtomBelow k) placed.others → here (at g t) (generic g placed.others) ≡ true → here (at n t) part ≡ false
         other below own =
             let there = generic_places k g n some_names like below placed.dealt t l own in
             parts_disjoint (parts_comm placed.parts) s (at n t) there

@@ -2,7 +2,7 @@
 --
 -- pattern: a list of numbers below k for each pattern; pattern_like: any names have the pattern of one.
 use Rattle.std.proofs.Common.{◌≡◌, ℕ, zero, suc, ◌<◌, ◌≤◌, cond, eqb, ◌⊎◌, map, length, get_or, sym, refl, ap, ◌∙◌, subst, inl, inr, le_of_eq, arith}
-use Rattle.std.specs.List.{range_with_len, AllByRecursion as All}
+use Rattle.std.specs.List.{range_with_len, AllByRecursion}
 use Rattle.std.proofs.lemmas.Bool.{cases_eq, eq-eqb, ne_eqb}
 use Rattle.std.proofs.lemmas.List.FromFn.{length-map-range_with_len, get_or-map-range_with_len}
 use Rattle.std.proofs.ByRecursion.{All-from_get_or}
@@ -63,7 +63,7 @@ at_pattern : (n : Names) (k x : ℕ) → x < k → at (pattern n k) x ≡ lowest
 at_pattern n k zero l = omega (arith, (lowest_least n 0 k 0 (omega arith) refl).1)
 at_pattern n k (suc x) l = pattern_get n k (suc x) l
 
-pub pattern_below : (n : Names) (k : ℕ) → All (λ p. p < k) (pattern n k)
+pub pattern_below : (n : Names) (k : ℕ) → AllByRecursion (λ p. p < k) (pattern n k)
 pattern_below n k =
     All-from_get_or (λ p. p < k) (pattern n k) 0 λ i l.
     let within : i < k = omega (arith, pattern_length n k) in

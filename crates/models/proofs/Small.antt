@@ -2,7 +2,7 @@
 --
 -- trial_few: a trial has few cells at few places; one_of_two and small_shows: the theorems.
 use Rattle.std.proofs.Common.{ℕ, zero, suc, ◌+◌, ◌<◌, ◌≤◌, ◌⊎◌, List, [], ◌∷◌, ◌++◌, length, inl, inr, ⊎_elim, arith, length-append}
-use Rattle.std.specs.List.{AllByRecursion as All}
+use Rattle.std.specs.List.{AllByRecursion}
 use Rattle.std.proofs.lemmas.Bool.{cond_both}
 use Rattle.std.proofs.ByRecursion.{All-append, All-weaker}
 use Rattle.claims.specs.Claims.{Atom, cell, row, Question}
@@ -19,7 +19,7 @@ use Rattle.models.proofs.Patterns.{pattern, pattern_length, pattern_below, patte
 
 -- at most j cells, at places below b
 abbrev Few : ℕ → ℕ → Memory → Type 0
-Few b j m = (length m ≤ j) × All (CellBelow b) m
+Few b j m = (length m ≤ j) × AllByRecursion (CellBelow b) m
 
 few_append : (b i j : ℕ) (m m' : Memory) → Few b i m → Few b j m' → Few b (i + j) (m ++ m')
 few_append b i j m m' h h' = (omega (arith, length-append m m'), All-append (CellBelow b) m m' h.1 h'.1)
@@ -58,7 +58,7 @@ module _ (b : ℕ) (g : Names) (below : (x : ℕ) → at g x < b) where
 module _ (q : Question) (limits : Limits q) where
   -- a trial against it is small
   trial_shows :
-      (g : Names) → All (λ p. p < q.names) g → (m : Memory) → Trial q.names g q.first.atoms m →
+      (g : Names) → AllByRecursion (λ p. p < q.names) g → (m : Memory) → Trial q.names g q.first.atoms m →
       Against q.names q.first q.second g m → Shows q
   trial_shows g below m trial against =
       let within = λ (x : ℕ). at_below q.names g limits.some_names below x in

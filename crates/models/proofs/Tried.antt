@@ -1,6 +1,6 @@
 -- What holds of all trials follows, for all names of the pattern.
 use Rattle.std.proofs.Common.{T, ⊎_elim}
-use Rattle.std.specs.List.{AllByRecursion as All}
+use Rattle.std.specs.List.{AllByRecursion}
 use Rattle.claims.specs.Memory.{sound, PureHolds}
 use Rattle.models.specs.Generic.{generic, plain}
 use Rattle.models.specs.Follows.{Tried}
@@ -17,10 +17,10 @@ tried k g c d some_names g-below c-fits d-fits trials n m like s says =
     matched k g c d some_names c-fits d-fits d-says (matches whole-sound c-says.pures) n m like s says
   where
     -- no trial is against it
-    none_against : All (PureHolds g) c.pures → Unmatched k g c.atoms d.atoms → ⊥
+    none_against : AllByRecursion (PureHolds g) c.pures → Unmatched k g c.atoms d.atoms → ⊥
     none_against pures u = u.not (trials u.m u.trial u.sound_m (record { pures = pures; atoms = u.says })).atoms
 
-    matches : T (sound (generic g c.atoms)) → All (PureHolds g) c.pures → Matches g c d
+    matches : T (sound (generic g c.atoms)) → AllByRecursion (PureHolds g) c.pures → Matches g c d
     matches whole-sound pures x y a others placed put full h =
         let either = can_have_or_stretches k g c.atoms (at_below k g some_names g-below) x y in
         ⊎_elim (λ can. can) (λ stretch. absurd (none_against pures (unmatched whole-sound placed put full h stretch))) either

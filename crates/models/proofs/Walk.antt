@@ -5,7 +5,7 @@
 -- a cell fits only cells, and a row fits those that do not have a cell at its end.
 -- atom_carries: so it can be taken out of the other memory too; walk: and so can all, one after the other.
 use Rattle.std.proofs.Common.{◌≡◌, ℕ, ◌<◌, true, false, List, [], sym, refl, ap, ◌∙◌}
-use Rattle.std.specs.List.{AllByRecursion as All}
+use Rattle.std.specs.List.{AllByRecursion}
 use Rattle.std.proofs.lemmas.Bool.{both_ways}
 use Rattle.claims.specs.Claims.{Atom, cell, row}
 use Rattle.claims.specs.Words.{AtomBelow}
@@ -133,7 +133,7 @@ module _
         }
 
     pub walk :
-        (Q : Atom → Memory → Type 0) {ds : List Atom} {m : Memory} → DealtEach Q ds m → All (AtomBelow k) ds →
+        (Q : Atom → Memory → Type 0) {ds : List Atom} {m : Memory} → DealtEach Q ds m → AllByRecursion (AtomBelow k) ds →
         (cs : List Atom) {b : Memory} → m ≡ generic g cs → DealtEach R cs b →
         ((x : Atom) (a : Memory) → Q x a → AtomHolds g x a × FitsAll x a) → Dealt n ds b
     walk Q none_each below cs e d fits = rw (nothing_left d (sym e)) no_more

@@ -1,6 +1,6 @@
 -- When a claim follows from another, and what shows that it does not.
 use Rattle.std.specs.Prelude.{◌≡◌, ℕ, ◌*◌, ◌<◌, ◌≤◌, T, ◌⊎◌, length}
-use Rattle.std.specs.List.{AllByRecursion as All}
+use Rattle.std.specs.List.{AllByRecursion}
 use Rattle.claims.specs.Claims.{Claim, Question}
 use Rattle.claims.specs.Words.{Fits, Limits}
 use Rattle.claims.specs.Memory.{Names, Cell, Memory, sound, Says}
@@ -27,8 +27,8 @@ CellBelow b c = (c.place < b) × (c.holds < b)
 -- no more than enough cells, and all places are below 256
 pub record Small (a : ℕ) (n : Names) (m : Memory) : Type 0 where
   pub cells : length m ≤ enough a
-  pub names_below : All (λ p. p < 256) n
-  pub places_below : All (CellBelow 256) m
+  pub names_below : AllByRecursion (λ p. p < 256) n
+  pub places_below : AllByRecursion (CellBelow 256) m
 
 -- names and a small memory show that it does not follow
 pub record Shows (q : Question) : Type 0 where
@@ -53,13 +53,13 @@ FollowsLike k g c d = (n : Names) (m : Memory) → Like k g n → T (sound m) �
 -- for one pattern of names, it follows, or the names themselves and one of the trials are against it
 abbrev pub Exact : Type 0
 Exact =
-    (k : ℕ) (g : Names) (c d : Claim) → 1 ≤ k → length g ≡ k → All (λ p. p < k) g → Fits k c → Fits k d →
+    (k : ℕ) (g : Names) (c d : Claim) → 1 ≤ k → length g ≡ k → AllByRecursion (λ p. p < k) g → Fits k c → Fits k d →
     FollowsLike k g c d ⊎ ((m : Memory) × Trial k g c.atoms m × Against k c d g m)
 
 -- so it follows if it holds of all trials
 abbrev pub Tried : Type 0
 Tried =
-    (k : ℕ) (g : Names) (c d : Claim) → 1 ≤ k → All (λ p. p < k) g → Fits k c → Fits k d →
+    (k : ℕ) (g : Names) (c d : Claim) → 1 ≤ k → AllByRecursion (λ p. p < k) g → Fits k c → Fits k d →
     ((m : Memory) → Trial k g c.atoms m → T (sound m) → Says g m c → Says g m d) → FollowsLike k g c d
 
 pub record Theorems : Type 0 where

@@ -1,7 +1,7 @@
 -- Names that are numbered in order: one more at the end, one list after another, and that all are below the count.
 use Rattle.std.proofs.Common.{◌≡◌, ℕ, suc, ◌+◌, ◌<◌, ◌≤◌, List, [], ◌∷◌, ◌++◌, map, length, get_or, sym, ap, ◌∙◌, subst, append_assoc, append-nil, arith}
 use Rattle.std.proofs.lemmas.List.{length-map}
-use Rattle.std.specs.List.{flat_map, AllByRecursion as All}
+use Rattle.std.specs.List.{flat_map, AllByRecursion}
 use Rattle.claims.specs.Claims.{Pure, same, other, Atom, cell, row, Claim}
 use Rattle.claims.specs.Words.{PureBelow, AtomBelow, Fits}
 use Rattle.notation.specs.declared.spans.Span.{Span}
@@ -19,25 +19,25 @@ in-order-grows done = omega arith
 in-order-grows (known lt a) = in-order-grows a
 in-order-grows (new a) = omega (arith, in-order-grows a)
 
-pub in-order-below : {k n : ℕ} {xs : List ℕ} → InOrder k xs n → All (λ x. x < n) xs
+pub in-order-below : {k n : ℕ} {xs : List ℕ} → InOrder k xs n → AllByRecursion (λ x. x < n) xs
 in-order-below done = tt
 in-order-below (known lt a) = (omega (arith, lt, in-order-grows a), in-order-below a)
 in-order-below (new a) = (omega (arith, in-order-grows a), in-order-below a)
 
-all_front : (P : ℕ → Type 0) (xs ys : List ℕ) → All P (xs ++ ys) → All P xs
+all_front : (P : ℕ → Type 0) (xs ys : List ℕ) → AllByRecursion P (xs ++ ys) → AllByRecursion P xs
 all_front P [] ys h = tt
 all_front P (x ∷ xs) ys h = (h.0, all_front P xs ys h.1)
 
-all_back : (P : ℕ → Type 0) (xs ys : List ℕ) → All P (xs ++ ys) → All P ys
+all_back : (P : ℕ → Type 0) (xs ys : List ℕ) → AllByRecursion P (xs ++ ys) → AllByRecursion P ys
 all_back P [] ys h = h
 all_back P (x ∷ xs) ys h = all_back P xs ys h.1
 
-pures_below : (n : ℕ) (ps : List Pure) → All (λ x. x < n) (flat_map pure_names ps) → All (PureBelow n) ps
+pures_below : (n : ℕ) (ps : List Pure) → AllByRecursion (λ x. x < n) (flat_map pure_names ps) → AllByRecursion (PureBelow n) ps
 pures_below n [] h = tt
 pures_below n (same x y ∷ ps) h = ((h.0, h.1.0), pures_below n ps h.1.1)
 pures_below n (other x y ∷ ps) h = ((h.0, h.1.0), pures_below n ps h.1.1)
 
-atoms_below : (n : ℕ) (cs : List Atom) → All (λ x. x < n) (flat_map atom_names cs) → All (AtomBelow n) cs
+atoms_below : (n : ℕ) (cs : List Atom) → AllByRecursion (λ x. x < n) (flat_map atom_names cs) → AllByRecursion (AtomBelow n) cs
 atoms_below n [] h = tt
 atoms_below n (cell x y ∷ cs) h = ((h.0, h.1.0), atoms_below n cs h.1.1)
 atoms_below n (row x y ∷ cs) h = ((h.0, h.1.0), atoms_below n cs h.1.1)
@@ -72,7 +72,7 @@ two_accepted {m} {n} {a} {b} spelled few e none apart x y =
       distinct = apart;
     }
   where
-    fits : {k l : ℕ} (c : Claim) → Numbered k c l → All (λ i. i < n) (claim_mentions c) → Fits n c
+    fits : {k l : ℕ} (c : Claim) → Numbered k c l → AllByRecursion (λ i. i < n) (claim_mentions c) → Fits n c
     fits c z h = record {
       few_pures = z.few_pures;
       few_atoms = z.few_atoms;

@@ -1,5 +1,5 @@
 use Rattle.std.proofs.Common.{map, refl, subst}
-use Rattle.std.specs.List.{AllByRecursion as All}
+use Rattle.std.specs.List.{AllByRecursion}
 use Rattle.std.proofs.lemmas.List.{take_all}
 use Rattle.claims.specs.Meaning.{pure_of}
 use Rattle.claims.specs.Words.{PureBelow}
@@ -16,4 +16,4 @@ loop-pure-preserved c =
 
 pub returns : goal.returns
 returns c _ =
-    subst (λ u. All (PureKnown c.args.known.now) (map pure_of u)) (take_all c.loop-pure.pure-index c.args.pures.now c.loop-pure-test.false) c.loop-pure.invariant
+    subst (λ u. AllByRecursion (PureKnown c.args.known.now) (map pure_of u)) (take_all c.loop-pure.pure-index c.args.pures.now c.loop-pure-test.false) c.loop-pure.invariant

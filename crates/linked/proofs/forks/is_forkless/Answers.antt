@@ -1,7 +1,7 @@
 use Rattle.std.proofs.Common.{ℕ, ◌<◌, false, List, map, length, get_or, refl, subst, arith}
 use lib.ListN.{length-map}
 use borrow.Author.Tests.{both_ways}
-use Rattle.std.specs.List.{AllByRecursion as All}
+use Rattle.std.specs.List.{AllByRecursion}
 use Rattle.std.proofs.ByRecursion.{All-get_or}
 use Rattle.std.proofs.lemmas.List.{get_or-map}
 use Rattle.claims.specs.Claims.{row}
@@ -14,7 +14,7 @@ use Rattle.linked.proofs.Begun.{begun_none, begun_skip, begun_more, begun_all, f
 use Rattle.linked.proofs.FirstNumbers.{generic_holds, generic_settled}
 use Rattle.linked.proofs.forks.is_forkless.Goals as goal
 
-below : (atoms : List Atom) (i : ℕ) → i < length atoms → All (AtomBelow 64) (map atom_of atoms) → AtomBelow 64 (atom_of (get_or atoms i spare))
+below : (atoms : List Atom) (i : ℕ) → i < length atoms → AllByRecursion (AtomBelow 64) (map atom_of atoms) → AtomBelow 64 (atom_of (get_or atoms i spare))
 below atoms i h all =
     subst (AtomBelow 64) (get_or-map atom_of atoms i spare (row 0 0) h)
     (All-get_or (AtomBelow 64) (map atom_of atoms) i (row 0 0) (omega (arith, length-map atoms atom_of)) all)

@@ -1,6 +1,6 @@
 use Rattle.std.proofs.Common.{map, length, sym, ap, subst, arith}
 use lib.ListN.{length-map}
-use Rattle.std.specs.List.{AllByRecursion as All}
+use Rattle.std.specs.List.{AllByRecursion}
 use Rattle.claims.specs.Words.{PureBelow, AtomBelow}
 use Rattle.claims.specs.Meaning.{pure_of, atom_of}
 use Rattle.linked.proofs.Below.{pures_weaker, atoms_weaker}
@@ -14,6 +14,6 @@ learn-requires c =
     let a = c.as_slice-2.ensures.value in
     record {
       few = omega (arith, f.few_atoms, length-map c.as_slice-2.result.now atom_of, ap (λ u. length (map atom_of u)) a);
-      small_pures = subst (λ u. All (PureBelow 64) (map pure_of u)) (sym p) (pures_weaker q.names c.requires.few_names _ f.pures_below);
-      small_atoms = subst (λ u. All (AtomBelow 64) (map atom_of u)) (sym a) (atoms_weaker q.names c.requires.few_names _ f.atoms_below);
+      small_pures = subst (λ u. AllByRecursion (PureBelow 64) (map pure_of u)) (sym p) (pures_weaker q.names c.requires.few_names _ f.pures_below);
+      small_atoms = subst (λ u. AllByRecursion (AtomBelow 64) (map atom_of u)) (sym a) (atoms_weaker q.names c.requires.few_names _ f.atoms_below);
     }

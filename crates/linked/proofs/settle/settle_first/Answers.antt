@@ -1,5 +1,5 @@
 use Rattle.std.proofs.Common.{Some, List, map, sym, refl, subst}
-use Rattle.std.specs.List.{AllByRecursion as All}
+use Rattle.std.specs.List.{AllByRecursion}
 use Rattle.claims.specs.Words.{AtomBelow}
 use Rattle.claims.specs.Meaning.{atom_of, question_of}
 use Rattle.claims.specs.declared.parts.Atom.{Atom}
@@ -15,7 +15,7 @@ learnt_known c k forth back = record { forth = forth; back = back }
 
 pub is_forkless-requires : goal.is_forkless-requires
 is_forkless-requires c =
-    subst (λ u. All (AtomBelow 64) (map atom_of u)) (sym c.as_slice.ensures.value)
+    subst (λ u. AllByRecursion (AtomBelow 64) (map atom_of u)) (sym c.as_slice.ensures.value)
     (atoms_weaker c.args.question.now.names c.requires.few_names _ c.requires.first_fits.atoms_below)
 
 pub returns-then-is_forkless : goal.returns-then-is_forkless

@@ -1,5 +1,5 @@
 use Rattle.std.proofs.Common.{◌-◌, map, sym, subst, arith, length-take}
-use Rattle.std.specs.List.{AllByRecursion as All}
+use Rattle.std.specs.List.{AllByRecursion}
 use Rattle.claims.specs.Meaning.{atom_of}
 use Rattle.claims.specs.Words.{AtomBelow}
 use Rattle.matching.proofs.Lists.{below_64, front}
@@ -10,5 +10,5 @@ of-requires c =
     let l = c.args.list.now in
     record {
       few = omega (arith, length-take (l.count - 0) l.atoms, l.few);
-      small = subst (λ u. All (AtomBelow 64) (map atom_of u)) (sym (front l.count l.atoms)) (below_64 l);
+      small = subst (λ u. AllByRecursion (AtomBelow 64) (map atom_of u)) (sym (front l.count l.atoms)) (below_64 l);
     }
