@@ -2,11 +2,11 @@
 // out, and ends with an error if an answer is not what it must be.
 #![tactic(auto)]
 
-use anyhow::anyhow;
 use entails::{Decided, decide};
 use naive::worked::Expected;
 use naive::{Answer, Random, Tally, WORKED, make, read, round};
 use std::alloc::{AllocError, Global};
+use std::process::ExitCode;
 
 const QUESTIONS: u32 = 3000;
 
@@ -91,11 +91,11 @@ fn run(rt: &HostRuntime) -> anyhow::Result<bool> {
     Ok(right && tally.differ == 0)
 }
 
-fn main(rt: HostRuntime) -> anyhow::Result<()> {
+fn main(rt: HostRuntime) -> anyhow::Result<ExitCode> {
     if run(&rt)? {
-        Ok(())
+        Ok(ExitCode::SUCCESS)
     } else {
-        // what is wrong is out already; this sets the exit status
-        Err(anyhow!("not all answers are right"))
+        // what is wrong is out already
+        Ok(ExitCode::FAILURE)
     }
 }

@@ -2,13 +2,13 @@
 // whether it holds of its memory, or why not.
 #![tactic(auto)]
 
-use anyhow::anyhow;
 use console::{Arguments, load_named};
 use memory_notation::{Answer, Cases, judge, report};
 use notation::MOST_BYTES;
 use std::io;
+use std::process::ExitCode;
 
-const VERSION: &str = "holds 0.1, proved with rattle-kit-8b logic 7f726aa041520687\n";
+const VERSION: &str = "holds 0.1, proved with rattle-kit-13f logic dac8208d650f15bf\n";
 
 const HELP: &str = "usage: holds [FILE..]
 
@@ -93,11 +93,11 @@ fn run(rt: &HostRuntime) -> io::Result<bool> {
     Ok(good)
 }
 
-fn main(rt: HostRuntime) -> anyhow::Result<()> {
+fn main(rt: HostRuntime) -> anyhow::Result<ExitCode> {
     if run(&rt)? {
-        Ok(())
+        Ok(ExitCode::SUCCESS)
     } else {
-        // the messages are out already; this sets the exit status
-        Err(anyhow!("not all was read"))
+        // the messages are out already
+        Ok(ExitCode::FAILURE)
     }
 }

@@ -2,15 +2,15 @@
 // must be so of the names of its first claim.
 #![tactic(auto)]
 
-use anyhow::anyhow;
 use console::{Arguments, load_named};
 use findings::found;
 use notation::{MOST_BYTES, Reader, normal_form, report};
 use std::io;
+use std::process::ExitCode;
 
 mod counted;
 
-const VERSION: &str = "says 0.1, proved with rattle-kit-8b logic 7f726aa041520687\n";
+const VERSION: &str = "says 0.1, proved with rattle-kit-13f logic dac8208d650f15bf\n";
 
 const HELP: &str = "usage: says [FILE..]
 
@@ -92,11 +92,11 @@ fn run(rt: &HostRuntime) -> io::Result<bool> {
     Ok(good)
 }
 
-fn main(rt: HostRuntime) -> anyhow::Result<()> {
+fn main(rt: HostRuntime) -> anyhow::Result<ExitCode> {
     if run(&rt)? {
-        Ok(())
+        Ok(ExitCode::SUCCESS)
     } else {
-        // the messages are out already; this sets the exit status
-        Err(anyhow!("not all was read"))
+        // the messages are out already
+        Ok(ExitCode::FAILURE)
     }
 }
