@@ -59,7 +59,7 @@ returns-then-rest-len c =
           let d = rest_from f.0 c.len.result (from 1 s) f.1 f.2 (k ∙ sym c.len.ensures) in
           let e = d ∙ second_is s q f.0 f.1 r f.2 in
           let o = claim_one q.second g.0 [] g.1 (append-nil (claim_words q.second) ∙ sym e ∙ g.2) in
-          c.if-rest-len.true (ap length (e ∙ ap claim_words o.0) ∙ l ∙ sym c.len-2.ensures);
+          omega (arith, ap length (e ∙ ap claim_words o.0) ∙ l ∙ sym c.len-2.ensures);
       one_question = one_question;
     }
 
@@ -71,7 +71,7 @@ returns c =
     let k = length_claim f.0 c.in-Some.first.pures c.in-Some.first.atoms f.4.pures f.4.atoms in
     let l = length_claim g.0 c.in-Some-read_claim.second.pures c.in-Some-read_claim.second.atoms g.4.pures g.4.atoms in
     let d = rest_from f.0 c.len.result (from 1 s) f.1 f.2 (k ∙ sym c.len.ensures) in
-    let w = claim_whole g.0 (from c.len.result (from 1 s)) g.1 g.2 (l ∙ sym c.len-2.ensures ∙ sym c.if-rest-len.false) in
+    let w = claim_whole g.0 (from c.len.result (from 1 s)) g.1 g.2 (omega (arith, l, c.len-2.ensures)) in
     let e = f.2 ∙ ap (λ u. claim_words f.0 ++ u) (sym d ∙ w) in
     let q : Question = record { names = get_or s 0 0; first = f.0; second = g.0 } in
     let h : 1 ≤ length s = omega arith in
