@@ -1,5 +1,5 @@
-// Does nothing fork? Then a claim with these cells and rows holds of a memory with one cell for each that isn't known
-// to be empty, and in which names are the same only where that is known.
+// Does nothing fork? Then a claim with these cells and rows whose same and other are known holds of a memory with one cell for
+// each that isn't known to be empty, and in which names are the same only where that is known.
 ghost use Rattle.std.specs.Prelude.{◌≡◌, ℕ, ◌<◌, true, false, map, ◌≢◌};
 ghost use Rattle.std.specs.List.{AllByRecursion};
 ghost use Rattle.claims.specs.Meaning.{atom_of};
