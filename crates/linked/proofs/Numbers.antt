@@ -1,6 +1,5 @@
--- Each name at the number of the one that stands for it: these names agree with what is known (`numbers_agree`).
-use Rattle.std.proofs.Common.{◌≡◌, ℕ, zero, suc, ◌<◌, List, length, get_or, sym, ap, ◌∙◌, zero-add, arith, eq-eqb}
-use Rattle.std.proofs.lemmas.List.FromFn.{get_or-map-range_with_len}
+-- All 64 names, each at the number of the one that stands for it: they agree with what is known (`numbers_agree`).
+use Rattle.std.proofs.Common.{◌≡◌, ℕ, ◌<◌, List, length, get_or, sym, ap, ◌∙◌, arith, eq-eqb}
 use Rattle.claims.specs.Claims.{Atom, row}
 use Rattle.claims.specs.Memory.{at}
 use Rattle.memory.specs.Owners.{start}
@@ -12,20 +11,13 @@ use Rattle.linked.specs.Stands.{root}
 use Rattle.linked.specs.Knowing.{Agrees}
 use Rattle.linked.specs.Forking.{numbers, HasGeneric, begin_of, ApartSoFar}
 use Rattle.linked.specs.declared.known.Known.{Known}
-use Rattle.linked.proofs.Roots.{root_below}
-use Rattle.linked.proofs.Leading.{root-up}
-use Rattle.linked.proofs.Clearness.{clear_of}
+use Rattle.linked.proofs.FirstNumbers.{at-first_numbers, first_numbers_agree}
 
 pub at-numbers : (k : Known) (x : ℕ) → x < 64 → at (numbers k) x ≡ root k.stands x
-at-numbers k zero h = let l = root_below k.stands k.falls 0 h in omega arith
-at-numbers k (suc x) h = get_or-map-range_with_len (root k.stands) 0 64 (suc x) (suc x) 0 h (zero-add (suc x))
+at-numbers k x h = at-first_numbers 64 k x h (omega arith)
 
 pub numbers_agree : (k : Known) → Agrees k (numbers k)
-numbers_agree k =
-    record {
-      same = λ x h. at-numbers k x h ∙ sym (root-up k.stands k.falls x h) ∙ sym (at-numbers k (get_or k.stands x 0) (omega (arith, k.falls x h)));
-      other = λ x y hx hy m e. clear_of k x y hx hy m (sym (at-numbers k x hx) ∙ e ∙ at-numbers k y hy);
-    }
+numbers_agree = first_numbers_agree
 
 pub has-generic : (k : Known) (cs : List Atom) → ForkFree (numbers k) cs → HasGeneric k cs
 has-generic k cs f =
