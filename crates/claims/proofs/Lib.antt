@@ -3,3 +3,4 @@ pub mod Threes
 pub mod PartWords
 pub mod ClaimWords
 pub mod Putting
+pub mod ShapesTold

@@ -2,10 +2,11 @@
 use Rattle.std.specs.Prelude.{◌≡◌, ℕ, ◌/◌, List, ◌++◌, map, length, take, Some, None, Option}
 use Rattle.std.specs.List.{flat_map, AllByRecursion}
 use Rattle.claims.specs.Claims as claims
-use Rattle.claims.specs.Words.{claim_words, Fits}
+use Rattle.claims.specs.Words.{claim_words, Fits, Reads}
 use Rattle.claims.specs.Meaning.{pure_of, atom_of}
 use Rattle.claims.specs.Reading.{HasShape}
 use Rattle.claims.specs.declared.decoded.Decoded.{Decoded}
+use Rattle.claims.specs.declared.decoded.DecodedQuestion.{DecodedQuestion}
 
 -- the claim whose parts stand at the front of both arrays
 abbrev pub decoded_claim : Decoded → claims.Claim
@@ -31,3 +32,12 @@ pub record Decodes (s : List ℕ) (n : ℕ) (d : Decoded) : Type 0 where
 abbrev pub ClaimDecoded : List ℕ → ℕ → Option Decoded → Type 0
 ClaimDecoded s n (Some d) = Decodes s n d
 ClaimDecoded s n None = (c : claims.Claim) (rest : List ℕ) → s ≡ claim_words c ++ rest → Fits n c → ⊥
+
+-- the question of both claims
+abbrev pub decoded_question : DecodedQuestion → claims.Question
+decoded_question q = record { names = q.names; first = decoded_claim q.first; second = decoded_claim q.second }
+
+-- the words s are that question; or they are none
+abbrev pub QuestionDecoded : List ℕ → Option DecodedQuestion → Type 0
+QuestionDecoded s (Some q) = Reads s (decoded_question q)
+QuestionDecoded s None = (q : claims.Question) → Reads s q → ⊥

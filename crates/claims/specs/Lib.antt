@@ -5,5 +5,6 @@ pub mod Ends
 pub mod Memory
 -- what the code's types stand for, and what reading promises
 pub mod Meaning
+pub mod Parts
 pub mod Reading
 pub mod Decoding

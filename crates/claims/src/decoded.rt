@@ -1,4 +1,4 @@
-// A claim's parts by value, with nothing on the heap.
+// A claim's parts by value, and a question's, with nothing on the heap.
 ghost use Rattle.std.specs.Prelude.{◌≡◌, length, take};
 
 use crate::parts::{Atom, Pure};
@@ -28,4 +28,12 @@ impl Decoded {
     {
         &self.atoms[0..self.shape.atoms]
     }
+}
+
+// How many names a question has, and the parts of both claims.
+#[derive(Clone, Copy)]
+pub struct DecodedQuestion {
+    pub names: u8,
+    pub first: Decoded,
+    pub second: Decoded,
 }

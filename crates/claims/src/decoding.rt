@@ -3,50 +3,33 @@
 // Where `read_claim` tells how many parts the claim has, `decode` hands the parts over, for code that goes
 // through them more than once.
 ghost use Rattle.std.specs.Prelude.{◌+◌, ◌*◌, ◌≤◌, length, IfSome};
-ghost use Rattle.claims.specs.Decoding.{PartsRead, ClaimDecoded};
+ghost use Rattle.claims.specs.Decoding.{PartsRead, ClaimDecoded, QuestionDecoded};
 ghost use Rattle.claims.specs.Meaning.{pure_of, atom_of};
 ghost use Rattle.claims.specs.Words.{pure_words, atom_words, PureBelow, AtomBelow};
 
-use crate::decoded::Decoded;
-use crate::layouts::{MOST_ATOMS, MOST_PURES};
+use crate::decoded::{Decoded, DecodedQuestion};
+use crate::layouts::{MOST_ATOMS, MOST_NAMES, MOST_PURES};
 use crate::names::Name;
+use crate::part::Part;
 use crate::parts::{Atom, Pure};
 use crate::shapes::Shape;
 
-// The same and other that the words are, one after the other.
-fn pures(words: &[u32], names: u8) -> Option<[Pure; 256]>
-    requires { length words.now ≤ 768 }
-    ensures { PartsRead pure_words (PureBelow names) pure_of 256 words.now result }
+// The parts that the words are, one after the other, put in place of the first of those that are given.
+fn read_parts<P: Part, const N: usize>(
+    words: &[u32],
+    names: u8,
+    mut parts: [P; N],
+) -> Option<[P; N]>
+    requires { length words.now ≤ 3 * N }
+    ensures { PartsRead P.words_of (P.Below names) P.meaning N words.now result }
 {
     if words.len() % 3 != 0 {
         return None;
     }
-    let mut pures = [Pure::Same(Name(0), Name(0)); 256];
     for i in 0..words.len() / 3 {
-        let Some(pure) = Pure::read(&words[3 * i..], names) else {
-            return None;
-        };
-        pures[i] = pure;
+        parts[i] = P::read(&words[3 * i..], names)?;
     }
-    Some(pures)
-}
-
-// The cells and rows that the words are, one after the other.
-fn atoms(words: &[u32], names: u8) -> Option<[Atom; 64]>
-    requires { length words.now ≤ 192 }
-    ensures { PartsRead atom_words (AtomBelow names) atom_of 64 words.now result }
-{
-    if words.len() % 3 != 0 {
-        return None;
-    }
-    let mut atoms = [Atom::Row(Name(0), Name(0)); 64];
-    for i in 0..words.len() / 3 {
-        let Some(atom) = Atom::read(&words[3 * i..], names) else {
-            return None;
-        };
-        atoms[i] = atom;
-    }
-    Some(atoms)
+    Some(parts)
 }
 
 // The claim that the words begin with, over so many names.
@@ -65,18 +48,46 @@ pub fn decode(words: &[u32], names: u8) -> Option<Decoded>
     if parts.len() < 3 * (shape.pures + shape.atoms) {
         return None;
     }
-    let Some(pures) = pures(&parts[0..3 * shape.pures], names) else {
-        return None;
-    };
-    let Some(atoms) = atoms(
+    let nowhere = Name(0);
+    let pures = read_parts(
+        &parts[0..3 * shape.pures],
+        names,
+        [Pure::Same(nowhere, nowhere); 256],
+    )?;
+    let atoms = read_parts(
         &parts[3 * shape.pures..3 * (shape.pures + shape.atoms)],
         names,
-    ) else {
-        return None;
-    };
+        [Atom::Row(nowhere, nowhere); 64],
+    )?;
     Some(Decoded {
         pures,
         atoms,
         shape,
+    })
+}
+
+// The question that the words are, or none if they are no question.
+pub fn decode_question(words: &[u32]) -> Option<DecodedQuestion>
+    ensures { QuestionDecoded words.now result }
+{
+    if words.len() < 1 {
+        return None;
+    }
+    let names = words[0];
+    if names < 1 || names > MOST_NAMES {
+        return None;
+    }
+    let names = names as u8;
+    let claims = &words[1..];
+    let first = decode(claims, names)?;
+    let rest = &claims[first.shape.len()..];
+    let second = decode(rest, names)?;
+    if rest.len() != second.shape.len() {
+        return None;
+    }
+    Some(DecodedQuestion {
+        names,
+        first,
+        second,
     })
 }

@@ -9,16 +9,18 @@ pub mod decoded;
 pub mod decoding;
 pub mod layouts;
 pub mod names;
+pub mod part;
 pub mod parts;
 pub mod questions;
 pub mod shapes;
 #[cfg(test)]
 mod tests;
 
-pub use decoded::Decoded;
-pub use decoding::decode;
+pub use decoded::{Decoded, DecodedQuestion};
+pub use decoding::{decode, decode_question};
 pub use layouts::{Layout, read};
 pub use names::{Name, Place};
+pub use part::Part;
 pub use parts::{Atom, Pure};
 pub use questions::{Claim, Question};
 pub use shapes::Shape;

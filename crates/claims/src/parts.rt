@@ -1,11 +1,14 @@
 // The two kinds of parts that a claim has, and their words: a kind and two names.
-ghost use Rattle.std.specs.Prelude.{◌≡◌, ℕ, length};
+ghost use Rattle.std.specs.Prelude.{◌≡◌, IfSome, IfNone, take, ◌∷◌, [], ◌<◌, ◌≤◌, length};
 ghost use Rattle.claims.specs.Ends.{left, right, start, end};
 ghost use Rattle.claims.specs.Meaning.{pure_of, atom_of};
-ghost use Rattle.claims.specs.Reading.{PureRead, AtomRead};
-ghost use Rattle.claims.specs.Words.{pure_words, atom_words};
+ghost use Rattle.claims.specs.Parts.{KindRead};
+ghost use Rattle.claims.specs.Words.{pure_words, atom_words, PureBelow, AtomBelow};
+ghost use Rattle.claims.specs.Claims as claims;
+ghost use Rattle.std.proofs.Common.{refl};
 
 use crate::names::Name;
+use crate::part::Part;
 
 // What a claim says of two names: they stand for the same, or they do not.
 #[derive(Clone, Copy, Debug, PartialEq, Eq)]
@@ -22,36 +25,71 @@ pub enum Atom {
     Row(Name, Name),
 }
 
-impl Pure {
-    // The same or other that the words begin with, if its names are below `names`.
-    pub fn read(words: &[u32], names: u8) -> Option<Pure>
-        ensures { PureRead words.now names result }
-    {
-        let [kind, x, y, ..] = words else {
-            return None;
-        };
-        let Some(x) = Name::below(*x, names) else {
-            return None;
-        };
-        let Some(y) = Name::below(*y, names) else {
-            return None;
-        };
-        match *kind {
-            0 => Some(Pure::Same(x, y)),
-            1 => Some(Pure::Other(x, y)),
+// The kind and the two names that the words begin with, if these are below `names`.
+fn kind_and_names(words: &[u32], names: u8) -> Option<(u32, Name, Name)>
+    ensures { KindRead words.now names result }
+{
+    let [kind, x, y, ..] = words else {
+        return None;
+    };
+    Some((*kind, Name::below(*x, names)?, Name::below(*y, names)?))
+}
+
+impl Part for Pure {
+    ghost Meaning = { claims.Pure };
+
+    ghost meaning = { pure_of };
+
+    ghost words_of = { pure_words };
+
+    ghost Below = { PureBelow };
+
+    ghost three = { elim [ claims.same x y ↦ refl | claims.other x y ↦ refl ] };
+
+    fn read(words: &[u32], names: u8) -> Option<Pure> {
+        match kind_and_names(words, names)? {
+            (0, x, y) => Some(Pure::Same(x, y)),
+            (1, x, y) => Some(Pure::Other(x, y)),
             _ => None,
         }
     }
 
-    pub fn words(self) -> [u32; 3]
-        ensures { result ≡ pure_words (pure_of self) }
-    {
+    fn words(self) -> [u32; 3] {
         match self {
             Pure::Same(x, y) => [0, u32::from(x.0), u32::from(y.0)],
             Pure::Other(x, y) => [1, u32::from(x.0), u32::from(y.0)],
         }
     }
+}
 
+impl Part for Atom {
+    ghost Meaning = { claims.Atom };
+
+    ghost meaning = { atom_of };
+
+    ghost words_of = { atom_words };
+
+    ghost Below = { AtomBelow };
+
+    ghost three = { elim [ claims.cell x y ↦ refl | claims.row x y ↦ refl ] };
+
+    fn read(words: &[u32], names: u8) -> Option<Atom> {
+        match kind_and_names(words, names)? {
+            (2, x, y) => Some(Atom::Cell(x, y)),
+            (3, x, y) => Some(Atom::Row(x, y)),
+            _ => None,
+        }
+    }
+
+    fn words(self) -> [u32; 3] {
+        match self {
+            Atom::Cell(x, y) => [2, u32::from(x.0), u32::from(y.0)],
+            Atom::Row(x, y) => [3, u32::from(x.0), u32::from(y.0)],
+        }
+    }
+}
+
+impl Pure {
     // The two names that it speaks of.
     pub fn names(self) -> (Name, Name)
         ensures left { result.0.0 ≡ left (pure_of self) }
@@ -64,35 +102,6 @@ impl Pure {
 }
 
 impl Atom {
-    // The cell or row that the words begin with, if its names are below `names`.
-    pub fn read(words: &[u32], names: u8) -> Option<Atom>
-        ensures { AtomRead words.now names result }
-    {
-        let [kind, x, y, ..] = words else {
-            return None;
-        };
-        let Some(x) = Name::below(*x, names) else {
-            return None;
-        };
-        let Some(y) = Name::below(*y, names) else {
-            return None;
-        };
-        match *kind {
-            2 => Some(Atom::Cell(x, y)),
-            3 => Some(Atom::Row(x, y)),
-            _ => None,
-        }
-    }
-
-    pub fn words(self) -> [u32; 3]
-        ensures { result ≡ atom_words (atom_of self) }
-    {
-        match self {
-            Atom::Cell(x, y) => [2, u32::from(x.0), u32::from(y.0)],
-            Atom::Row(x, y) => [3, u32::from(x.0), u32::from(y.0)],
-        }
-    }
-
     // The name where it begins.
     pub fn start(self) -> Name
         ensures { result.0 ≡ start (atom_of self) }

@@ -4,6 +4,7 @@ ghost use Rattle.std.specs.List.{flat_map};
 ghost use Rattle.claims.specs.Meaning.{pure_of, atom_of, claim_of, question_of};
 ghost use Rattle.claims.specs.Words.{words as words_of, claim_words, pure_words, atom_words, Limits};
 
+use crate::part::Part;
 use crate::parts::{Atom, Pure};
 use std::alloc::{AllocError, Global};
 
@@ -22,20 +23,12 @@ pub struct Question {
     pub second: Claim,
 }
 
-fn push_pures(out: &mut Vec<u32>, pures: &[Pure]) -> Result<(), AllocError>
-    ensures { OnOk result (out.new.items ≡ out.old.items ++ flat_map pure_words (map pure_of pures.now)) }
+// Puts the words of the parts behind those that are there.
+fn push_parts<P: Part>(out: &mut Vec<u32>, parts: &[P]) -> Result<(), AllocError>
+    ensures { OnOk result (out.new.items ≡ out.old.items ++ flat_map P.words_of (map P.meaning parts.now)) }
 {
-    for pure in pures {
-        out.extend_from_slice(&pure.words())?;
-    }
-    Ok(())
-}
-
-fn push_atoms(out: &mut Vec<u32>, atoms: &[Atom]) -> Result<(), AllocError>
-    ensures { OnOk result (out.new.items ≡ out.old.items ++ flat_map atom_words (map atom_of atoms.now)) }
-{
-    for atom in atoms {
-        out.extend_from_slice(&atom.words())?;
+    for part in parts {
+        out.extend_from_slice(&part.words())?;
     }
     Ok(())
 }
@@ -48,9 +41,8 @@ fn push_claim(out: &mut Vec<u32>, claim: &Claim) -> Result<(), AllocError>
 {
     out.push(claim.pures.len() as u32)?;
     out.push(claim.atoms.len() as u32)?;
-    push_pures(out, claim.pures.as_slice())?;
-    push_atoms(out, claim.atoms.as_slice())?;
-    Ok(())
+    push_parts(out, claim.pures.as_slice())?;
+    push_parts(out, claim.atoms.as_slice())
 }
 
 impl Question {

@@ -10,21 +10,21 @@ pub returns-then-parts-shape : goal.returns-then-parts-shape
 returns-then-parts-shape c =
     record { decodes = λ k rest e f. omega (arith, (claim_stands k c.args.words.now rest e).room); room = tt }
 
-pub returns-in_default : goal.returns-in_default
-returns-in_default c =
-    record {
+pub returns-in_err-pures : goal.returns-in_err-pures
+returns-in_err-pures c =
+    rw c.from_residual.ensures record {
       decodes =
           λ k rest e f.
-          c.in_default.ensures k.pures (claim_stands k c.args.words.now rest e).pure_part f.pures_below;
+          c.in_err-pures.ensures k.pures (claim_stands k c.args.words.now rest e).pure_part f.pures_below;
       room = tt;
     }
 
-pub returns-in_default-atoms : goal.returns-in_default-atoms
-returns-in_default-atoms c =
-    record {
+pub returns-in_err-atoms : goal.returns-in_err-atoms
+returns-in_err-atoms c =
+    rw c.from_residual-in_err-atoms.ensures record {
       decodes =
           λ k rest e f.
-          c.in_default-atoms.ensures k.atoms (claim_stands k c.args.words.now rest e).atom_part f.atoms_below;
+          c.in_err-atoms.ensures k.atoms (claim_stands k c.args.words.now rest e).atom_part f.atoms_below;
       room = tt;
     }
 
@@ -40,11 +40,11 @@ returns c =
     let pure_count : length pure_words-of ≡ 3 * p = omega (arith, length-take (3 * p - 0) (behind s)) in
     let atom_count : length atom_words-of ≡ 3 * a =
     omega (arith, length-take (3 * (p + a) - 3 * p) (drop (3 * p) (behind s)), length-drop (3 * p) (behind s)) in
-    let f = c.in-Some.ensures in
-    let g = c.in-Some-atoms.ensures in
-    let pures-are = count_put pure_words (PureBelow c.args.names) pure_of pure_words-of p c.in-Some.pures pure_count f.1 f.2 in
-    let atoms_are = count_put atom_words (AtomBelow c.args.names) atom_of atom_words-of a c.in-Some-atoms.atoms atom_count g.1 g.2 in
-    let k : Claim = record { pures = map pure_of (take p c.in-Some.pures); atoms = map atom_of (take a c.in-Some-atoms.atoms) } in
+    let f = c.in_ok-pures.ensures in
+    let g = c.in_ok-atoms.ensures in
+    let pures-are = count_put pure_words (PureBelow c.args.names) pure_of pure_words-of p c.in_ok-pures.pures pure_count f.1 f.2 in
+    let atoms_are = count_put atom_words (AtomBelow c.args.names) atom_of atom_words-of a c.in_ok-atoms.atoms atom_count g.1 g.2 in
+    let k : Claim = record { pures = map pure_of (take p c.in_ok-pures.pures); atoms = map atom_of (take a c.in_ok-atoms.atoms) } in
     let st : Stands k p a (behind s) =
     record {
       pures = count_pures k.pures p a (behind s) few pures-are.0;
