@@ -37,14 +37,16 @@ pub fn decode(words: &[u32], names: u8) -> Option<Decoded>
     ensures decodes { ClaimDecoded words.now names result }
     ensures room { IfSome result (λ d. 2 + 3 * (d.shape.pures + d.shape.atoms) ≤ length words.now) }
 {
-    if words.len() < 2 || words[0] > MOST_PURES || words[1] > MOST_ATOMS {
+    let [pures, atoms, parts @ ..] = words else {
+        return None;
+    };
+    if *pures > MOST_PURES || *atoms > MOST_ATOMS {
         return None;
     }
     let shape = Shape {
-        pures: words[0] as usize,
-        atoms: words[1] as usize,
+        pures: *pures as usize,
+        atoms: *atoms as usize,
     };
-    let parts = &words[2..];
     if parts.len() < 3 * (shape.pures + shape.atoms) {
         return None;
     }
@@ -70,15 +72,13 @@ pub fn decode(words: &[u32], names: u8) -> Option<Decoded>
 pub fn decode_question(words: &[u32]) -> Option<DecodedQuestion>
     ensures { QuestionDecoded words.now result }
 {
-    if words.len() < 1 {
+    let [names, claims @ ..] = words else {
+        return None;
+    };
+    if *names < 1 || *names > MOST_NAMES {
         return None;
     }
-    let names = words[0];
-    if names < 1 || names > MOST_NAMES {
-        return None;
-    }
-    let names = names as u8;
-    let claims = &words[1..];
+    let names = *names as u8;
     let first = decode(claims, names)?;
     let rest = &claims[first.shape.len()..];
     let second = decode(rest, names)?;
