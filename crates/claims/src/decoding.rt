@@ -26,6 +26,8 @@ fn read_parts<P: Part, const N: usize>(
     if words.len() % 3 != 0 {
         return None;
     }
+    // One index for where a part's words start and where it goes: a proof can't speak of the array while a zipped
+    // iterator holds it.
     for i in 0..words.len() / 3 {
         parts[i] = P::read(&words[3 * i..], names)?;
     }
