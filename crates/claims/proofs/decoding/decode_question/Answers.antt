@@ -35,7 +35,7 @@ returns-then-rest-len c q r =
     let d = rest_from (decoded_claim d1) c.len.result (from 1 s) f.rest f.words (k ∙ sym c.len.ensures) in
     let e = d ∙ second_is s q (decoded_claim d1) f.rest r f.words in
     let o = claim_one q.second (decoded_claim d2) [] g.rest (append-nil (claim_words q.second) ∙ sym e ∙ g.words) in
-    c.if-rest-len.true (ap length (e ∙ ap claim_words o.0) ∙ l ∙ sym c.len-2.ensures)
+    omega (arith, ap length (e ∙ ap claim_words o.0) ∙ l ∙ sym c.len-2.ensures)
 
 pub returns : goal.returns
 returns c =
@@ -47,7 +47,7 @@ returns c =
     let k = length_claim (decoded_claim d1) d1.shape.pures d1.shape.atoms f.shape.pures f.shape.atoms in
     let l = length_claim (decoded_claim d2) d2.shape.pures d2.shape.atoms g.shape.pures g.shape.atoms in
     let d = rest_from (decoded_claim d1) c.len.result (from 1 s) f.rest f.words (k ∙ sym c.len.ensures) in
-    let w = claim_whole (decoded_claim d2) (from c.len.result (from 1 s)) g.rest g.words (l ∙ sym c.len-2.ensures ∙ sym c.if-rest-len.false) in
+    let w = claim_whole (decoded_claim d2) (from c.len.result (from 1 s)) g.rest g.words (omega (arith, l, c.len-2.ensures)) in
     let e = f.words ∙ ap (λ u. claim_words (decoded_claim d1) ++ u) (sym d ∙ w) in
     let h : 1 ≤ length s = omega arith in
     record {
