@@ -1,82 +1,96 @@
-// A small memory, by value, and parts of it as bits: cell number i is in a part if its bit i is set.
-ghost use Rattle.std.specs.Prelude.{◌≡◌, ◌+◌, ◌<◌, ◌≤◌, length, IfSome};
+// A small memory, by value, and parts of it as bits: cell number i is in a part if its bit i is set. All parts of a
+// part are so gone through by counting, which lists of cells would only make longer.
+ghost use Rattle.std.specs.Prelude.{◌≡◌, ◌+◌, ◌-◌, ◌%◌, ◌/◌, ◌^◌, ◌<◌, ◌≤◌, ◌++◌, [], ◌∷◌, take, IfSome, OnOk, OnErr};
+ghost use Rattle.arrayvec.specs.ArrayVec.{array_vec_len};
+
+use arrayvec::ArrayVec;
 
 // A told memory has at most this many cells.
 pub const MOST_CELLS: usize = 16;
 
-#[derive(Clone, Copy)]
+#[derive(Clone, Copy, PartialEq, Eq, Default)]
 pub struct Cell {
     pub place: u32,
     pub leads: u32,
 }
 
+// Why a cell can't be put into a memory.
+#[derive(Clone, Copy, PartialEq, Eq)]
+pub enum Refused {
+    Nowhere,
+    Taken,
+    NoRoom,
+}
+
 // Cells at different places, none nowhere.
-#[derive(Clone, Copy)]
+#[derive(Drop)]
 pub struct Cells {
-    cells: [Cell; MOST_CELLS],
-    count: usize,
-    ghost full: { length cells ≡ 16 },
-    ghost few: { count ≤ 16 },
+    cells: ArrayVec<Cell, MOST_CELLS>,
 }
 
 impl Cells {
     pub fn new() -> Cells
-        ensures { result.count ≡ 0 }
+        ensures { result.cells.items ≡ [] }
     {
-        let nothing = Cell { place: 0, leads: 0 };
         Cells {
-            cells: [nothing; MOST_CELLS],
-            count: 0,
+            cells: ArrayVec::new(),
         }
     }
 
     pub fn len(&self) -> usize
-        ensures { result ≡ self.now.count }
+        ensures count { result ≡ array_vec_len self.now.cells }
+        ensures few { result ≤ 16 }
     {
-        self.count
+        self.cells.len()
     }
 
     // All of the cells, as a part.
     pub fn all(&self) -> u32 {
-        (1u32 << self.count) - 1
+        (1u32 << self.cells.len()) - 1
+    }
+
+    // Which cell is at the place?
+    fn at(&self, place: u32) -> Option<usize>
+        ensures here { IfSome result (λ i. i < array_vec_len self.now.cells) }
+        ensures few { IfSome result (λ i. i < 16) }
+    {
+        self.cells.iter().position(|cell| cell.place == place)
     }
 
     // Which cell of the part is at the place?
     fn find(&self, part: u32, place: u32) -> Option<usize>
-        ensures { IfSome result (λ i. i < self.now.count) }
+        ensures here { IfSome result (λ i. i < array_vec_len self.now.cells) }
+        ensures few { IfSome result (λ i. i < 16) }
+        ensures of_the_part { IfSome result (λ i. (part / 2 ^ i) % 2 ≡ 1) }
     {
-        for i in 0..self.count {
-            if (part >> i) & 1 == 1 && self.cells[i].place == place {
-                return Some(i);
-            }
-        }
-        None
+        self.at(place).filter(|i| (part >> *i) & 1 == 1)
     }
 
-    // One cell more, unless it is nowhere, its place is taken or there is no room.
-    pub fn with(self, cell: Cell) -> Option<Cells>
-        ensures { IfSome result (λ s. s.count ≡ self.count + 1) }
+    // One cell more.
+    pub fn put(&mut self, cell: Cell) -> Result<(), Refused>
+        ensures ok { OnOk result (self.new.cells.items ≡ self.old.cells.items ++ cell ∷ []) }
+        ensures err { OnErr result (self.new.cells.items ≡ self.old.cells.items) }
     {
-        if cell.place == 0
-            || self.count >= MOST_CELLS
-            || self.find(self.all(), cell.place).is_some()
-        {
-            return None;
+        if cell.place == 0 {
+            return Err(Refused::Nowhere);
         }
-        let mut cells = self.cells;
-        cells[self.count] = cell;
-        Some(Cells {
-            cells,
-            count: self.count + 1,
-        })
+        if self.at(cell.place).is_some() {
+            return Err(Refused::Taken);
+        }
+        self.cells.try_push(cell).map_err(|_| Refused::NoRoom)
+    }
+
+    // Without the cell that was put last.
+    pub fn take_back(&mut self)
+        ensures { self.new.cells.items ≡ take (array_vec_len self.old.cells - 1) self.old.cells.items }
+    {
+        self.cells.pop();
     }
 
     // Is the part just one cell, at the first place and leading to the second?
     pub fn is_cell(&self, part: u32, from: u32, to: u32) -> bool {
-        match self.find(part, from) {
-            Some(i) => part == 1u32 << i && self.cells[i].leads == to,
-            None => false,
-        }
+        self.find(part, from)
+            .is_some_and(|i| part == 1 << i && self.cells[i].leads == to)
     }
 
     // Is the part a row from the first place to the second? It is walked along till its end, and then no cell may be
@@ -84,16 +98,13 @@ impl Cells {
     pub fn is_row(&self, part: u32, from: u32, to: u32) -> bool {
         let mut at = from;
         let mut left = part;
-        for _ in 0..self.count + 1 {
-            if at == to {
-                return left == 0;
-            }
+        while at != to {
             let Some(i) = self.find(left, at) else {
                 return false;
             };
-            left ^= 1u32 << i;
+            left -= 1 << i;
             at = self.cells[i].leads;
         }
-        false
+        left == 0
     }
 }
