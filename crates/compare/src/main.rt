@@ -52,20 +52,20 @@ fn ask_known(rt: &HostRuntime, room: &mut Room, worked: &Worked) -> anyhow::Resu
     Ok(right)
 }
 
-// How many of the questions whose answers are known are answered wrongly?
-fn ask_worked(rt: &HostRuntime, room: &mut Room) -> anyhow::Result<u64> {
-    let mut wrong = 0;
-    for worked in &WORKED {
-        wrong += u64::from(!ask_known(rt, room, worked)?);
-    }
+// All questions whose answers are known: true, if each comes out.
+fn ask_worked(rt: &HostRuntime, room: &mut Room) -> anyhow::Result<bool> {
+    let right = WORKED
+        .iter()
+        .try_fold(true, |right, worked| -> anyhow::Result<bool> {
+            Ok(ask_known(rt, room, worked)? && right)
+        })?;
     let words = round(rt.alloc())?;
     let round = Worked {
         says: ROUND,
         words: words.as_slice(),
         expected: Expected::Just(Answer::Fails(2)),
     };
-    wrong += u64::from(!ask_known(rt, room, &round)?);
-    Ok(wrong)
+    Ok(ask_known(rt, room, &round)? && right)
 }
 
 // Questions made at random.
@@ -85,12 +85,13 @@ fn ask_made(rt: &HostRuntime, room: &mut Room) -> anyhow::Result<Tally> {
 
 fn main(rt: HostRuntime) -> anyhow::Result<ExitCode> {
     let mut room = Room::new(rt.alloc())?;
-    let wrong = ask_worked(&rt, &mut room)?;
+    let right = ask_worked(&rt, &mut room)?;
     let tally = ask_made(&rt, &mut room)?;
     println!(rt; "{tally}")?;
-    // what is wrong is out already
-    Ok(match wrong + tally.differ {
-        0 => ExitCode::SUCCESS,
-        _ => ExitCode::FAILURE,
-    })
+    if right && tally.differ == 0 {
+        Ok(ExitCode::SUCCESS)
+    } else {
+        // what is wrong is out already
+        Ok(ExitCode::FAILURE)
+    }
 }
