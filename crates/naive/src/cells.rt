@@ -1,9 +1,10 @@
 // A small memory, by value, and parts of it as bits: cell number i is in a part if its bit i is set. All parts of a
 // part are so gone through by counting, which lists of cells would only make longer.
-ghost use Rattle.std.specs.Prelude.{◌≡◌, ◌+◌, ◌-◌, ◌%◌, ◌/◌, ◌^◌, ◌<◌, ◌≤◌, ◌++◌, [], ◌∷◌, take, IfSome, OnOk, OnErr};
-ghost use Rattle.arrayvec.specs.ArrayVec.{array_vec_len};
+ghost use Rattle.std.specs.Prelude.{◌≡◌, ◌+◌, ◌-◌, ◌%◌, ◌/◌, ◌^◌, ◌<◌, ◌≤◌, ◌==◌, ◌++◌, ◌↔◌, [], ◌∷◌, true, false, length, position, take, IfSome, OnOk, OnErr};
+ghost use Rattle.std.specs.List.{list_any};
 
 use arrayvec::ArrayVec;
+use std::marker::Model;
 
 // A told memory has at most this many cells.
 pub const MOST_CELLS: usize = 16;
@@ -28,9 +29,21 @@ pub struct Cells {
     cells: ArrayVec<Cell, MOST_CELLS>,
 }
 
+// Its cells, in the order in which they were put.
+impl Model for Cells {
+    ghost use Rattle.std.specs.Prelude.{◌≤◌, List, length};
+    ghost use Rattle.naive.specs.declared.cells.Cell.{Cell};
+
+    ghost Value = { List Cell };
+
+    ghost view = { λ s. s.cells.items };
+
+    ghost invariant = { λ s. length s.cells.items ≤ 16 };
+}
+
 impl Cells {
     pub fn new() -> Cells
-        ensures { result.cells.items ≡ [] }
+        ensures { result ≡ [] }
     {
         Cells {
             cells: ArrayVec::new(),
@@ -38,7 +51,7 @@ impl Cells {
     }
 
     pub fn len(&self) -> usize
-        ensures count { result ≡ array_vec_len self.now.cells }
+        ensures count { result ≡ length self.now }
         ensures few { result ≤ 16 }
     {
         self.cells.len()
@@ -46,35 +59,40 @@ impl Cells {
 
     // All of the cells, as a part.
     pub fn all(&self) -> u32 {
-        (1u32 << self.cells.len()) - 1
-    }
-
-    // Which cell is at the place?
-    fn at(&self, place: u32) -> Option<usize>
-        ensures here { IfSome result (λ i. i < array_vec_len self.now.cells) }
-        ensures few { IfSome result (λ i. i < 16) }
-    {
-        self.cells.iter().position(|cell| cell.place == place)
+        (1u32 << self.len()) - 1
     }
 
     // Which cell of the part is at the place?
     fn find(&self, part: u32, place: u32) -> Option<usize>
-        ensures here { IfSome result (λ i. i < array_vec_len self.now.cells) }
+        ensures here { IfSome result (λ i. i < length self.now) }
         ensures few { IfSome result (λ i. i < 16) }
         ensures of_the_part { IfSome result (λ i. (part / 2 ^ i) % 2 ≡ 1) }
     {
-        self.at(place).filter(|i| (part >> *i) & 1 == 1)
+        self.cells
+            .iter()
+            .position(|cell| cell.place == place)
+            .filter(|i| (part >> *i) & 1 == 1)
+    }
+
+    fn is_taken(&self, place: u32) -> bool
+        ensures { result ≡ list_any (λ cell. cell.place == place) self.now }
+    {
+        self.cells.iter().any(|cell| cell.place == place)
     }
 
     // One cell more.
     pub fn put(&mut self, cell: Cell) -> Result<(), Refused>
-        ensures ok { OnOk result (self.new.cells.items ≡ self.old.cells.items ++ cell ∷ []) }
-        ensures err { OnErr result (self.new.cells.items ≡ self.old.cells.items) }
+        ensures ok { OnOk result (self.new ≡ self.old ++ cell ∷ []) }
+        ensures err { OnErr result (self.new ≡ self.old) }
+        ensures nowhere { (result ≡ Err Refused.Nowhere) ↔ (cell.place ≡ 0) }
+        ensures taken { result ≡ Err Refused.Taken → list_any (λ c. c.place == cell.place) self.old ≡ true }
+        ensures free { OnOk result (list_any (λ c. c.place == cell.place) self.old ≡ false) }
+        ensures no_room { result ≡ Err Refused.NoRoom → length self.old ≡ 16 }
     {
         if cell.place == 0 {
             return Err(Refused::Nowhere);
         }
-        if self.at(cell.place).is_some() {
+        if self.is_taken(cell.place) {
             return Err(Refused::Taken);
         }
         self.cells.try_push(cell).map_err(|_| Refused::NoRoom)
@@ -82,7 +100,7 @@ impl Cells {
 
     // Without the cell that was put last.
     pub fn take_back(&mut self)
-        ensures { self.new.cells.items ≡ take (array_vec_len self.old.cells - 1) self.old.cells.items }
+        ensures { self.new ≡ take (length self.old - 1) self.old }
     {
         self.cells.pop();
     }

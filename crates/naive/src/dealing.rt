@@ -1,8 +1,6 @@
 // Does a claim hold of names and a memory? All ways of dealing the cells out are tried.
 //
 // That there is at most one way, and how to find it, is what a clever program would use. This one doesn't.
-ghost use Rattle.std.specs.Prelude.{◌<◌};
-
 use crate::cells::Cells;
 use crate::parts::{Atom, AtomKind, Claim, Pure, PureKind};
 

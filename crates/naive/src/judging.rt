@@ -40,11 +40,12 @@ pub struct Tally {
 impl Tally {
     // Does the second claim follow, as far as one can see here? Where there are too many names, one can't.
     fn follows(&mut self, question: &Question) -> bool {
-        try_all(question).is_some_and(|tried| {
-            self.memories = self.memories.saturating_add(tried.memories);
-            self.most_memories = self.most_memories.max(tried.memories);
-            tried.follows
-        })
+        let Some(tried) = try_all(question) else {
+            return false;
+        };
+        self.memories = self.memories.saturating_add(tried.memories);
+        self.most_memories = self.most_memories.max(tried.memories);
+        tried.follows
     }
 
     // Judges one answer more: true, if it is right. What is told are the words of a memory, if it fails.

@@ -5,15 +5,14 @@
 // goes on, cell by cell, to every place that it could: to the place of any name, its end among them, or to one
 // without a name, till it is at its end. So every length of every row comes up, and every place inside it. Where a
 // cell would be nowhere, or at a place that has one, or would be the ninth, that memory is given up.
-ghost use Rattle.std.specs.Prelude.{◌≡◌, ◌<◌, ◌≤◌};
-ghost use Rattle.arrayvec.specs.ArrayVec.{array_vec_len};
+ghost use Rattle.std.specs.Prelude.{◌≡◌, ◌≤◌, length};
 
 use crate::cells::{Cell, Cells};
 use crate::dealing::{all_hold, holds, place_of};
 use crate::parts::{Atom, AtomKind, Question};
 
 // So many names can be given places here, with nowhere.
-pub const MOST_NAMES: u32 = 6;
+pub const MOST_NAMES: usize = 6;
 
 // No memory with more cells is tried.
 const MOST_TRIED: usize = 8;
@@ -30,7 +29,7 @@ pub struct Tried {
 #[derive(Drop)]
 struct Making<'a> {
     question: &'a Question,
-    names: [u32; 6],
+    names: [u32; MOST_NAMES],
     cells: Cells,
     memories: u64,
 }
@@ -46,6 +45,7 @@ impl Making<'_> {
             return self.places_hold() && self.lay(self.question.first.atoms.as_slice());
         }
         let name = count - 1;
+        // loops here and below, since a closure that lays out cells would have to promise that it takes them back
         for place in 0..count {
             self.names[name] = place as u32;
             if self.give_places(name) {
@@ -67,7 +67,7 @@ impl Making<'_> {
     // Lays out the cells and rows.
     #[cycle(lay)]
     fn lay(&mut self, atoms: &[Atom]) -> bool
-        ensures { array_vec_len self.new.cells.cells ≡ array_vec_len self.old.cells.cells }
+        ensures { length self.new.cells ≡ length self.old.cells }
     {
         let Some((atom, rest)) = atoms.split_first() else {
             return self.is_against();
@@ -83,24 +83,24 @@ impl Making<'_> {
     // Lays out what is left of a row, and then the others.
     #[cycle(lay)]
     fn lay_row(&mut self, at: u32, to: u32, rest: &[Atom]) -> bool
-        ensures { array_vec_len self.new.cells.cells ≡ array_vec_len self.old.cells.cells }
+        ensures { length self.new.cells ≡ length self.old.cells }
     {
         if at == to {
             return self.lay(rest);
         }
-        for place in 0..MOST_NAMES {
+        for place in 0..MOST_NAMES as u32 {
             if place_of(&self.names, place) == place && self.lay_cell(at, place, to, rest) {
                 return true;
             }
         }
-        let unnamed = MOST_NAMES + self.cells.len() as u32;
+        let unnamed = (MOST_NAMES + self.cells.len()) as u32;
         self.lay_cell(at, unnamed, to, rest)
     }
 
     // Lays out one cell, and then what is left of its row from where the cell leads.
     #[cycle(lay)]
     fn lay_cell(&mut self, place: u32, leads: u32, to: u32, rest: &[Atom]) -> bool
-        ensures { array_vec_len self.new.cells.cells ≡ array_vec_len self.old.cells.cells }
+        ensures { length self.new.cells ≡ length self.old.cells }
     {
         if self.cells.len() >= MOST_TRIED || self.cells.put(Cell { place, leads }).is_err() {
             return false;
@@ -112,7 +112,7 @@ impl Making<'_> {
 
     // Is the memory, of which the first claim holds, one of which the second doesn't?
     fn is_against(&mut self) -> bool
-        ensures { array_vec_len self.new.cells.cells ≡ array_vec_len self.old.cells.cells }
+        ensures { length self.new.cells ≡ length self.old.cells }
     {
         self.memories = self.memories.saturating_add(1);
         !holds(&self.question.second, &self.names, &self.cells)
@@ -121,12 +121,12 @@ impl Making<'_> {
 
 // Does the second claim follow, as far as memories of up to eight cells show? None, if there are too many names.
 pub fn try_all(question: &Question) -> Option<Tried> {
-    if question.names > MOST_NAMES {
+    if question.names as usize > MOST_NAMES {
         return None;
     }
     let mut making = Making {
         question,
-        names: [0; 6],
+        names: [0; MOST_NAMES],
         cells: Cells::new(),
         memories: 0,
     };
