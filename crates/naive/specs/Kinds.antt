@@ -15,9 +15,6 @@ abbrev pub atom_code : AtomKind → ℕ
 atom_code Cell = 2
 atom_code Row = 3
 
--- the kind with this word, or an error at a word that neither has
-abbrev pub DecodesPure : ℕ → Result PureKind Error → Type 0
-DecodesPure word r = MatchResult r (λ kind. pure_code kind ≡ word) (λ _. (word ≢ 0) × (word ≢ 1))
-
-abbrev pub DecodesAtom : ℕ → Result AtomKind Error → Type 0
-DecodesAtom word r = MatchResult r (λ kind. atom_code kind ≡ word) (λ _. (word ≢ 2) × (word ≢ 3))
+-- the kind with this word, or an error at a word that no kind has
+abbrev pub Decodes : {K : Type 0} → (K → ℕ) → ℕ → Result K Error → Type 0
+Decodes code word r = MatchResult r (λ kind. code kind ≡ word) (λ _. (kind : _) → code kind ≢ word)

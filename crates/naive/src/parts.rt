@@ -3,7 +3,7 @@
 // These types are like those of `claims`, but share no code with them on purpose: what reads or writes words wrongly
 // there should be seen here.
 ghost use Rattle.std.specs.Prelude.{◌≡◌};
-ghost use Rattle.naive.specs.Kinds.{pure_code, atom_code, DecodesPure, DecodesAtom};
+ghost use Rattle.naive.specs.Kinds.{pure_code, atom_code, Decodes};
 
 use anyhow::{Error, anyhow};
 use std::alloc::{AllocError, Global};
@@ -23,7 +23,7 @@ pub enum AtomKind {
 impl TryFrom<u32> for PureKind {
     type Error = Error;
 
-    ghost try_from_gives = { DecodesPure };
+    ghost try_from_gives = { Decodes pure_code };
 
     fn try_from(word: u32) -> Result<PureKind, Error> {
         match word {
@@ -45,7 +45,7 @@ impl From<PureKind> for u32 {
 impl TryFrom<u32> for AtomKind {
     type Error = Error;
 
-    ghost try_from_gives = { DecodesAtom };
+    ghost try_from_gives = { Decodes atom_code };
 
     fn try_from(word: u32) -> Result<AtomKind, Error> {
         match word {
