@@ -1,6 +1,6 @@
-// A small memory, by value, and parts of it as bits: cell number i is in a part if its bit i is set. All parts of a
-// part are so gone through by counting, which lists of cells would only make longer.
-ghost use Rattle.std.specs.Prelude.{◌≡◌, ◌+◌, ◌-◌, ◌%◌, ◌/◌, ◌^◌, ◌<◌, ◌≤◌, ◌==◌, ◌++◌, ◌↔◌, [], ◌∷◌, true, false, length, position, take, IfSome, OnOk, OnErr};
+// A small memory, and shares of it as bits: cell number i is in a share if its bit i is set. To go through all shares of a
+// share is so to count, which no list of cells would make plainer.
+ghost use Rattle.std.specs.Prelude.{◌≡◌, ◌+◌, ◌-◌, ◌%◌, ◌/◌, ◌^◌, ◌<◌, ◌≤◌, ◌==◌, ◌++◌, ◌↔◌, [], ◌∷◌, true, false, length, take, IfSome, OnOk, OnErr};
 ghost use Rattle.std.specs.List.{list_any};
 
 use arrayvec::ArrayVec;
@@ -57,21 +57,21 @@ impl Cells {
         self.cells.len()
     }
 
-    // All of the cells, as a part.
+    // All of the cells, as a share.
     pub fn all(&self) -> u32 {
         (1u32 << self.len()) - 1
     }
 
-    // Which cell of the part is at the place?
-    fn find(&self, part: u32, place: u32) -> Option<usize>
+    // Which cell of the share is at the place?
+    fn find(&self, share: u32, place: u32) -> Option<usize>
         ensures here { IfSome result (λ i. i < length self.now) }
         ensures few { IfSome result (λ i. i < 16) }
-        ensures of_the_part { IfSome result (λ i. (part / 2 ^ i) % 2 ≡ 1) }
+        ensures of_the_share { IfSome result (λ i. (share / 2 ^ i) % 2 ≡ 1) }
     {
         self.cells
             .iter()
             .position(|cell| cell.place == place)
-            .filter(|i| (part >> *i) & 1 == 1)
+            .filter(|i| (share >> *i) & 1 == 1)
     }
 
     fn is_taken(&self, place: u32) -> bool
@@ -105,17 +105,17 @@ impl Cells {
         self.cells.pop();
     }
 
-    // Is the part just one cell, at the first place and leading to the second?
-    pub fn is_cell(&self, part: u32, from: u32, to: u32) -> bool {
-        self.find(part, from)
-            .is_some_and(|i| part == 1 << i && self.cells[i].leads == to)
+    // Is the share just one cell, at the first place and leading to the second?
+    pub fn is_cell(&self, share: u32, from: u32, to: u32) -> bool {
+        self.find(share, from)
+            .is_some_and(|i| share == 1 << i && self.cells[i].leads == to)
     }
 
-    // Is the part a row from the first place to the second? It is walked along till its end, and then no cell may be
+    // Is the share a row from the first place to the second? It is walked along till its end, and then no cell may be
     // left; at a place where there is none, it isn't a row.
-    pub fn is_row(&self, part: u32, from: u32, to: u32) -> bool {
+    pub fn is_row(&self, share: u32, from: u32, to: u32) -> bool {
         let mut at = from;
-        let mut left = part;
+        let mut left = share;
         while at != to {
             let Some(i) = self.find(left, at) else {
                 return false;

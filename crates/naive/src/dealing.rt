@@ -25,26 +25,26 @@ pub fn all_hold(pures: &[Pure], names: &[u32]) -> bool {
     pures.iter().all(|pure| is_so(pure, names))
 }
 
-// Is the part just what the cell or row says?
-fn fits(atom: &Atom, names: &[u32], cells: &Cells, part: u32) -> bool {
+// Is the share just what the cell or row says?
+fn fits(atom: &Atom, names: &[u32], cells: &Cells, share: u32) -> bool {
     let from = place_of(names, atom.left);
     let to = place_of(names, atom.right);
     match atom.kind {
-        AtomKind::Cell => cells.is_cell(part, from, to),
-        AtomKind::Row => cells.is_row(part, from, to),
+        AtomKind::Cell => cells.is_cell(share, from, to),
+        AtomKind::Row => cells.is_row(share, from, to),
     }
 }
 
-// Can the cells that are left be dealt out to the atoms, so that all are used, each once? Every part of what is left is
+// Can the cells that are left be dealt out to the atoms, so that all are used, each once? Every share of what is left is
 // given to the first atom in turn.
 fn deal(atoms: &[Atom], names: &[u32], cells: &Cells, left: u32) -> bool {
     let Some((atom, rest)) = atoms.split_first() else {
         return left == 0;
     };
-    (0..=left).any(|part| {
-        part & left == part
-            && fits(atom, names, cells, part)
-            && deal(rest, names, cells, left ^ part)
+    (0..=left).any(|share| {
+        share & left == share
+            && fits(atom, names, cells, share)
+            && deal(rest, names, cells, left ^ share)
     })
 }
 
