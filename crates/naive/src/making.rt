@@ -98,7 +98,7 @@ fn fold(random: &mut Random, atoms: &mut Vec<Atom>) {
     }
 }
 
-// Puts the elements into another order.
+// Puts the elements into another order, by their indices, which is what `swap` takes.
 fn shuffle(random: &mut Random, atoms: &mut [Atom]) {
     for i in 0..atoms.len() {
         let j = random.index(atoms.len());
