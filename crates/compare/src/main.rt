@@ -4,7 +4,7 @@
 
 use entails::{Decided, decide};
 use naive::worked::Expected;
-use naive::{Answer, Random, Tally, WORKED, make, read, round};
+use naive::{Answer, Random, Tally, WORKED, Worked, make, read, round};
 use std::alloc::{AllocError, Global};
 use std::process::ExitCode;
 
@@ -40,38 +40,38 @@ impl Room {
 }
 
 // A question whose answer is known: true, if it comes out, and a memory that is told is one against it.
-fn ask_known(
-    rt: &HostRuntime,
-    room: &mut Room,
-    says: &str,
-    words: &[u32],
-    expected: Expected,
-) -> anyhow::Result<bool> {
-    let answer = room.ask(words);
-    println!(rt; "{says}: {answer}")?;
-    let question = read(rt.alloc(), words)?;
-    let right = expected.admits(answer)
-        && Tally::new().judge(&question, answer, room.out.as_slice());
+fn ask_known(rt: &HostRuntime, room: &mut Room, worked: &Worked) -> anyhow::Result<bool> {
+    let answer = room.ask(worked.words);
+    println!(rt; "{}: {answer}", worked.says)?;
+    let question = read(rt.alloc(), worked.words)?;
+    let right = worked.expected.admits(answer)
+        && Tally::default().judge(&question, answer, room.out.as_slice());
     if !right {
         println!(rt; "  which is wrong")?;
     }
     Ok(right)
 }
 
+// All questions whose answers are known: true, if each comes out.
 fn ask_worked(rt: &HostRuntime, room: &mut Room) -> anyhow::Result<bool> {
-    let mut right = true;
-    for worked in WORKED {
-        right &= ask_known(rt, room, worked.says, worked.words, worked.expected)?;
-    }
+    let right = WORKED
+        .iter()
+        .try_fold(true, |right, worked| -> anyhow::Result<bool> {
+            Ok(ask_known(rt, room, worked)? && right)
+        })?;
     let words = round(rt.alloc())?;
-    let round_right = ask_known(rt, room, ROUND, words.as_slice(), Expected::FailsWith(2))?;
-    Ok(right && round_right)
+    let round = Worked {
+        says: ROUND,
+        words: words.as_slice(),
+        expected: Expected::Just(Answer::Fails(2)),
+    };
+    Ok(ask_known(rt, room, &round)? && right)
 }
 
 // Questions made at random.
 fn ask_made(rt: &HostRuntime, room: &mut Room) -> anyhow::Result<Tally> {
     let mut random = Random::new(SEED);
-    let mut tally = Tally::new();
+    let mut tally = Tally::default();
     for _ in 0..QUESTIONS {
         let words = make(rt.alloc(), &mut random)?.words(rt.alloc())?;
         let answer = room.ask(words.as_slice());
@@ -83,16 +83,12 @@ fn ask_made(rt: &HostRuntime, room: &mut Room) -> anyhow::Result<Tally> {
     Ok(tally)
 }
 
-fn run(rt: &HostRuntime) -> anyhow::Result<bool> {
-    let mut room = Room::new(rt.alloc())?;
-    let right = ask_worked(rt, &mut room)?;
-    let tally = ask_made(rt, &mut room)?;
-    println!(rt; "{tally}")?;
-    Ok(right && tally.differ == 0)
-}
-
 fn main(rt: HostRuntime) -> anyhow::Result<ExitCode> {
-    if run(&rt)? {
+    let mut room = Room::new(rt.alloc())?;
+    let right = ask_worked(&rt, &mut room)?;
+    let tally = ask_made(&rt, &mut room)?;
+    println!(rt; "{tally}")?;
+    if right && tally.differ == 0 {
         Ok(ExitCode::SUCCESS)
     } else {
         // what is wrong is out already

@@ -1,99 +1,128 @@
-// A small memory, by value, and parts of it as bits: cell number i is in a part if its bit i is set.
-ghost use Rattle.std.specs.Prelude.{◌≡◌, ◌+◌, ◌<◌, ◌≤◌, length, IfSome};
+// A small memory, and shares of it as bits: cell number i is in a share if its bit i is set. To go through all shares of a
+// share is so to count, which no list of cells would make plainer.
+ghost use Rattle.std.specs.Prelude.{◌≡◌, ◌+◌, ◌-◌, ◌%◌, ◌/◌, ◌^◌, ◌<◌, ◌≤◌, ◌==◌, ◌++◌, ◌↔◌, [], ◌∷◌, true, false, length, take, IfSome, OnOk, OnErr};
+ghost use Rattle.std.specs.List.{list_any};
+
+use arrayvec::ArrayVec;
+use std::marker::Model;
 
 // A told memory has at most this many cells.
 pub const MOST_CELLS: usize = 16;
 
-#[derive(Clone, Copy)]
+#[derive(Clone, Copy, PartialEq, Eq, Default)]
 pub struct Cell {
     pub place: u32,
     pub leads: u32,
 }
 
+// Why a cell can't be put into a memory.
+#[derive(Clone, Copy, PartialEq, Eq)]
+pub enum Refused {
+    Nowhere,
+    Taken,
+    NoRoom,
+}
+
 // Cells at different places, none nowhere.
-#[derive(Clone, Copy)]
+#[derive(Drop)]
 pub struct Cells {
-    cells: [Cell; MOST_CELLS],
-    count: usize,
-    ghost full: { length cells ≡ 16 },
-    ghost few: { count ≤ 16 },
+    cells: ArrayVec<Cell, MOST_CELLS>,
+}
+
+// Its cells, in the order in which they were put.
+impl Model for Cells {
+    ghost use Rattle.std.specs.Prelude.{◌≤◌, List, length};
+    ghost use Rattle.naive.specs.declared.cells.Cell.{Cell};
+
+    ghost Value = { List Cell };
+
+    ghost view = { λ s. s.cells.items };
+
+    ghost invariant = { λ s. length s.cells.items ≤ 16 };
 }
 
 impl Cells {
     pub fn new() -> Cells
-        ensures { result.count ≡ 0 }
+        ensures { result ≡ [] }
     {
-        let nothing = Cell { place: 0, leads: 0 };
         Cells {
-            cells: [nothing; MOST_CELLS],
-            count: 0,
+            cells: ArrayVec::new(),
         }
     }
 
     pub fn len(&self) -> usize
-        ensures { result ≡ self.now.count }
+        ensures count { result ≡ length self.now }
+        ensures few { result ≤ 16 }
     {
-        self.count
+        self.cells.len()
     }
 
-    // All of the cells, as a part.
+    // All of the cells, as a share.
     pub fn all(&self) -> u32 {
-        (1u32 << self.count) - 1
+        (1u32 << self.len()) - 1
     }
 
-    // Which cell of the part is at the place?
-    fn find(&self, part: u32, place: u32) -> Option<usize>
-        ensures { IfSome result (λ i. i < self.now.count) }
+    // Which cell of the share is at the place?
+    fn find(&self, share: u32, place: u32) -> Option<usize>
+        ensures here { IfSome result (λ i. i < length self.now) }
+        ensures few { IfSome result (λ i. i < 16) }
+        ensures of_the_share { IfSome result (λ i. (share / 2 ^ i) % 2 ≡ 1) }
     {
-        for i in 0..self.count {
-            if (part >> i) & 1 == 1 && self.cells[i].place == place {
-                return Some(i);
-            }
-        }
-        None
+        self.cells
+            .iter()
+            .position(|cell| cell.place == place)
+            .filter(|i| (share >> *i) & 1 == 1)
     }
 
-    // One cell more, unless it is nowhere, its place is taken or there is no room.
-    pub fn with(self, cell: Cell) -> Option<Cells>
-        ensures { IfSome result (λ s. s.count ≡ self.count + 1) }
+    fn is_taken(&self, place: u32) -> bool
+        ensures { result ≡ list_any (λ cell. cell.place == place) self.now }
     {
-        if cell.place == 0
-            || self.count >= MOST_CELLS
-            || self.find(self.all(), cell.place).is_some()
-        {
-            return None;
-        }
-        let mut cells = self.cells;
-        cells[self.count] = cell;
-        Some(Cells {
-            cells,
-            count: self.count + 1,
-        })
+        self.cells.iter().any(|cell| cell.place == place)
     }
 
-    // Is the part just one cell, at the first place and leading to the second?
-    pub fn is_cell(&self, part: u32, from: u32, to: u32) -> bool {
-        match self.find(part, from) {
-            Some(i) => part == 1u32 << i && self.cells[i].leads == to,
-            None => false,
+    // One cell more.
+    pub fn put(&mut self, cell: Cell) -> Result<(), Refused>
+        ensures ok { OnOk result (self.new ≡ self.old ++ cell ∷ []) }
+        ensures err { OnErr result (self.new ≡ self.old) }
+        ensures nowhere { (result ≡ Err Refused.Nowhere) ↔ (cell.place ≡ 0) }
+        ensures taken { result ≡ Err Refused.Taken → list_any (λ c. c.place == cell.place) self.old ≡ true }
+        ensures free { OnOk result (list_any (λ c. c.place == cell.place) self.old ≡ false) }
+        ensures no_room { result ≡ Err Refused.NoRoom → length self.old ≡ 16 }
+    {
+        if cell.place == 0 {
+            return Err(Refused::Nowhere);
         }
+        if self.is_taken(cell.place) {
+            return Err(Refused::Taken);
+        }
+        self.cells.try_push(cell).map_err(|_| Refused::NoRoom)
     }
 
-    // Is the part a row from the first place to the second? It is walked along till its end, and then no cell may be
+    // Without the cell that was put last.
+    pub fn take_back(&mut self)
+        ensures { self.new ≡ take (length self.old - 1) self.old }
+    {
+        self.cells.pop();
+    }
+
+    // Is the share just one cell, at the first place and leading to the second?
+    pub fn is_cell(&self, share: u32, from: u32, to: u32) -> bool {
+        self.find(share, from)
+            .is_some_and(|i| share == 1 << i && self.cells[i].leads == to)
+    }
+
+    // Is the share a row from the first place to the second? It is walked along till its end, and then no cell may be
     // left; at a place where there is none, it isn't a row.
-    pub fn is_row(&self, part: u32, from: u32, to: u32) -> bool {
+    pub fn is_row(&self, share: u32, from: u32, to: u32) -> bool {
         let mut at = from;
-        let mut left = part;
-        for _ in 0..self.count + 1 {
-            if at == to {
-                return left == 0;
-            }
+        let mut left = share;
+        while at != to {
             let Some(i) = self.find(left, at) else {
                 return false;
             };
-            left ^= 1u32 << i;
+            left -= 1 << i;
             at = self.cells[i].leads;
         }
-        false
+        left == 0
     }
 }

@@ -5,7 +5,7 @@ use crate::trying::try_all;
 use std::fmt;
 
 // What somebody else answered to a question.
-#[derive(Clone, Copy)]
+#[derive(Clone, Copy, PartialEq, Eq)]
 pub enum Answer {
     Follows,
     // it doesn't, and a memory with so many cells is told that shows it
@@ -25,7 +25,7 @@ impl fmt::Display for Answer {
 }
 
 // What came of judging many answers.
-#[derive(Drop)]
+#[derive(Default, Drop)]
 pub struct Tally {
     pub follow: u64,
     pub fail: u64,
@@ -38,23 +38,14 @@ pub struct Tally {
 }
 
 impl Tally {
-    pub fn new() -> Tally {
-        Tally {
-            follow: 0,
-            fail: 0,
-            differ: 0,
-            most_cells: 0,
-            memories: 0,
-            most_memories: 0,
-        }
-    }
-
     // Does the second claim follow, as far as one can see here? Where there are too many names, one can't.
-    fn follows(&mut self, question: &Question) -> Option<bool> {
-        let tried = try_all(question)?;
+    fn follows(&mut self, question: &Question) -> bool {
+        let Some(tried) = try_all(question) else {
+            return false;
+        };
         self.memories = self.memories.saturating_add(tried.memories);
         self.most_memories = self.most_memories.max(tried.memories);
-        Some(tried.follows)
+        tried.follows
     }
 
     // Judges one answer more: true, if it is right. What is told are the words of a memory, if it fails.
@@ -63,12 +54,12 @@ impl Tally {
         let right = match answer {
             Answer::Follows => {
                 self.follow = self.follow.saturating_add(1);
-                follows == Some(true)
+                follows
             }
             Answer::Fails(cells) => {
                 self.fail = self.fail.saturating_add(1);
                 self.most_cells = self.most_cells.max(cells);
-                follows != Some(true) && refutes(question, told, cells)
+                !follows && refutes(question, told, cells)
             }
             Answer::Nothing => false,
         };
@@ -81,18 +72,15 @@ impl Tally {
 
 impl fmt::Display for Tally {
     fn fmt<W: fmt::Write>(&self, f: &mut fmt::Formatter<W>) -> fmt::Result {
-        let follow = self.follow;
-        let fail = self.fail;
-        let cells = self.most_cells;
         writeln!(
             f,
-            "made at random: {follow} follow, {fail} fail, with at most {cells} cells told"
+            "made at random: {} follow, {} fail, with at most {} cells told",
+            self.follow, self.fail, self.most_cells
         )?;
-        let memories = self.memories;
-        let most = self.most_memories;
         writeln!(
             f,
-            "gone through: {memories} memories, at most {most} for one question"
+            "gone through: {} memories, at most {} for one question",
+            self.memories, self.most_memories
         )?;
         match self.differ {
             0 => write!(f, "none differ"),

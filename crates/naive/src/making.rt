@@ -35,31 +35,31 @@ fn some_kind(random: &mut Random) -> AtomKind {
 }
 
 // Up to five cells and rows. They go round the names from a random one on, each leading to where the next begins, but
-// now and then one begins or leads anywhere.
+// now and then one begins or leads anywhere. Nowhere is left out of the round.
 fn some_atoms(heap: Global, random: &mut Random, names: u32) -> Result<Vec<Atom>, AllocError>
     requires { (2 ≤ names) × (names ≤ 6) }
 {
-    let first = random.below(names - 1);
+    let mut start = 1 + random.below(names - 1);
     let count = random.below(names).max(random.below(names));
     let mut atoms = Vec::new(heap);
-    for i in 0..count {
-        let start = 1 + (first + i) % (names - 1);
-        let next = 1 + (first + i + 1) % (names - 1);
-        let from = if random.once_in(8) {
+    for _ in 0..count {
+        let next = 1 + start % (names - 1);
+        let left = if random.once_in(8) {
             random.below(names)
         } else {
             start
         };
-        let to = if random.once_in(2) {
+        let right = if random.once_in(2) {
             random.below(names)
         } else {
             next
         };
         atoms.push(Atom {
             kind: some_kind(random),
-            from,
-            to,
+            left,
+            right,
         })?;
+        start = next;
     }
     Ok(atoms)
 }
@@ -82,76 +82,71 @@ fn fold(random: &mut Random, atoms: &mut Vec<Atom>) {
     if atoms.is_empty() {
         return;
     }
-    let i = random.index(atoms.len());
-    let near = atoms[i];
-    for j in 0..atoms.len() {
-        let far = atoms[j];
-        if j != i && far.from == near.to {
-            atoms[i] = Atom {
-                kind: AtomKind::Row,
-                from: near.from,
-                to: far.to,
-            };
-            let _ = atoms.swap_remove(j);
-            return;
-        }
+    let this = random.index(atoms.len());
+    let near = atoms[this];
+    let next = atoms
+        .iter()
+        .enumerate()
+        .position(|(i, far)| i != this && far.left == near.right);
+    if let Some(next) = next {
+        atoms[this] = Atom {
+            kind: AtomKind::Row,
+            left: near.left,
+            right: atoms[next].right,
+        };
+        let _ = atoms.swap_remove(next);
     }
 }
 
-// Puts the elements into another order.
-fn shuffle(random: &mut Random, atoms: &mut Vec<Atom>) {
+// Puts the elements into another order, by their indices, which is what `swap` takes.
+fn shuffle(random: &mut Random, atoms: &mut [Atom]) {
     for i in 0..atoms.len() {
         let j = random.index(atoms.len());
-        atoms.as_mut_slice().swap(i, j);
+        atoms.swap(i, j);
     }
 }
 
 // Changes one cell or row: its kind, where it begins or where it ends.
-fn change(random: &mut Random, names: u32, atoms: &mut Vec<Atom>)
+fn change(random: &mut Random, names: u32, atoms: &mut [Atom])
     requires { 0 < names }
 {
     if atoms.is_empty() {
         return;
     }
     let i = random.index(atoms.len());
-    let mut atom = atoms[i];
+    let atom = &mut atoms[i];
     match random.below(4) {
         0 => atom.kind = some_kind(random),
-        1 => atom.from = random.below(names),
-        2 => atom.to = random.below(names),
+        1 => atom.left = random.below(names),
+        2 => atom.right = random.below(names),
         _ => atom.kind = AtomKind::Row,
     }
-    atoms[i] = atom;
 }
 
 // What is so if these are two different cells, and often if they are rows: they begin at different places, which aren't
 // nowhere. Or else something of a row's two ends.
 fn consequence(random: &mut Random, first: Atom, second: Atom) -> Pure {
     let (kind, right) = match random.below(4) {
-        0 => (PureKind::Same, first.to),
+        0 => (PureKind::Same, first.right),
         1 => (PureKind::Other, 0),
-        2 => (PureKind::Other, first.to),
-        _ => (PureKind::Other, second.from),
+        2 => (PureKind::Other, first.right),
+        _ => (PureKind::Other, second.left),
     };
     Pure {
         kind,
-        left: first.from,
+        left: first.left,
         right,
     }
 }
 
 // Half of the same and other, and sometimes one that may follow from the cells and rows.
-fn weaker_pures(heap: Global, random: &mut Random, claim: &Claim) -> Result<Vec<Pure>, AllocError> {
-    let mut pures = Vec::new(heap);
-    for pure in claim.pures.iter() {
-        if random.once_in(2) {
-            pures.push(*pure)?;
-        }
-    }
-    let count = claim.atoms.len();
-    if count > 0 && random.once_in(3) {
-        let first = claim.atoms[random.index(count)];
-        let second = claim.atoms[random.index(count)];
+fn weaker_pures(random: &mut Random, claim: &Claim) -> Result<Vec<Pure>, AllocError> {
+    let mut pures = claim.pures.clone()?;
+    pures.retain(|_| random.once_in(2));
+    let atoms = claim.atoms.as_slice();
+    if !atoms.is_empty() && random.once_in(3) {
+        let first = atoms[random.index(atoms.len())];
+        let second = atoms[random.index(atoms.len())];
         pures.push(consequence(random, first, second))?;
     }
     Ok(pures)
@@ -168,52 +163,42 @@ fn renamed(random: &mut Random, name: u32, old: u32, new: u32) -> u32 {
 
 // Puts one name for another in some places.
 fn rename(random: &mut Random, atoms: &mut [Atom], old: u32, new: u32) {
-    for atom in atoms.iter_mut() {
-        *atom = Atom {
-            kind: atom.kind,
-            from: renamed(random, atom.from, old, new),
-            to: renamed(random, atom.to, old, new),
-        };
+    for atom in atoms {
+        atom.left = renamed(random, atom.left, old, new);
+        atom.right = renamed(random, atom.right, old, new);
     }
 }
 
 // Puts names that the claim says are the same for each other.
-fn rename_same(random: &mut Random, pures: &[Pure], atoms: &mut Vec<Atom>) {
-    for pure in pures {
-        if let PureKind::Same = pure.kind {
-            rename(random, atoms.as_mut_slice(), pure.left, pure.right);
-        }
+fn rename_same(random: &mut Random, pures: &[Pure], atoms: &mut [Atom]) {
+    for pure in pures.iter().filter(|pure| pure.kind == PureKind::Same) {
+        rename(random, atoms, pure.left, pure.right);
     }
 }
 
 // The claim with this and that done to it.
-fn variant(
-    heap: Global,
-    random: &mut Random,
-    names: u32,
-    claim: &Claim,
-) -> Result<Claim, AllocError>
+fn variant(random: &mut Random, names: u32, claim: &Claim) -> Result<Claim, AllocError>
     requires { 0 < names }
 {
     let mut atoms = claim.atoms.clone()?;
     for _ in 0..random.below(4) {
         fold(random, &mut atoms);
     }
-    rename_same(random, claim.pures.as_slice(), &mut atoms);
+    rename_same(random, claim.pures.as_slice(), atoms.as_mut_slice());
     if random.once_in(2) {
-        change(random, names, &mut atoms);
+        change(random, names, atoms.as_mut_slice());
     }
     if random.once_in(8) {
         let name = random.below(names);
         atoms.push(Atom {
             kind: AtomKind::Row,
-            from: name,
-            to: name,
+            left: name,
+            right: name,
         })?;
     }
-    shuffle(random, &mut atoms);
+    shuffle(random, atoms.as_mut_slice());
     Ok(Claim {
-        pures: weaker_pures(heap, random, claim)?,
+        pures: weaker_pures(random, claim)?,
         atoms,
     })
 }
@@ -227,7 +212,7 @@ pub fn make(heap: Global, random: &mut Random) -> Result<Question, AllocError>
     let second = if random.once_in(8) {
         some_claim(heap, random, names)?
     } else {
-        variant(heap, random, names, &first)?
+        variant(random, names, &first)?
     };
     Ok(Question {
         names,

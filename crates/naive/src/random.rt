@@ -1,4 +1,5 @@
-// Numbers that look random and are the same in every run: xorshift64*.
+// Numbers that look random and are the same in every run: xorshift64*. A library's would be others, and so make other
+// questions than those that `compare` counts.
 ghost use Rattle.std.specs.Prelude.{◌<◌};
 
 #[derive(Drop)]

@@ -1,27 +1,23 @@
-// Reading a question's words into plain lists, one word after the other.
-use crate::parts::{Atom, AtomKind, Claim, Pure, PureKind, Question};
-use anyhow::anyhow;
+// Reading a question's words into plain lists, one word after the other. Like the lists, it shares no code with how
+// `claims` reads them.
+use crate::parts::{Claim, Part, Question};
+use anyhow::{Context, Error, anyhow};
 use std::alloc::Global;
+use std::slice::Iter;
 
-// Words, and how many of them are read.
+// The words that are not read yet.
 #[derive(Drop)]
 pub struct Words<'a> {
-    all: &'a [u32],
-    read: usize,
+    left: Iter<'a, u32>,
 }
 
 impl Words<'_> {
     pub fn of(all: &[u32]) -> Words<'_> {
-        Words { all, read: 0 }
+        Words { left: all.iter() }
     }
 
     pub fn next(&mut self) -> anyhow::Result<u32> {
-        if self.read >= self.all.len() {
-            return Err(anyhow!("the words end too early"));
-        }
-        let word = self.all[self.read];
-        self.read += 1;
-        Ok(word)
+        self.left.next().copied().context("the words end too early")
     }
 
     fn name(&mut self, names: u32) -> anyhow::Result<u32> {
@@ -32,44 +28,37 @@ impl Words<'_> {
         Ok(name)
     }
 
-    fn pure(&mut self, names: u32) -> anyhow::Result<Pure> {
-        let kind = match self.next()? {
-            0 => PureKind::Same,
-            1 => PureKind::Other,
-            _ => return Err(anyhow!("neither same nor other")),
-        };
-        Ok(Pure {
-            kind,
+    fn part<K: TryFrom<u32, Error = Error> + Drop>(
+        &mut self,
+        names: u32,
+    ) -> anyhow::Result<Part<K>> {
+        Ok(Part {
+            kind: K::try_from(self.next()?)?,
             left: self.name(names)?,
             right: self.name(names)?,
         })
     }
 
-    fn atom(&mut self, names: u32) -> anyhow::Result<Atom> {
-        let kind = match self.next()? {
-            2 => AtomKind::Cell,
-            3 => AtomKind::Row,
-            _ => return Err(anyhow!("neither cell nor row")),
-        };
-        Ok(Atom {
-            kind,
-            from: self.name(names)?,
-            to: self.name(names)?,
-        })
+    fn parts<K: TryFrom<u32, Error = Error> + Drop>(
+        &mut self,
+        heap: Global,
+        names: u32,
+        count: u32,
+    ) -> anyhow::Result<Vec<Part<K>>> {
+        let mut parts = Vec::new(heap);
+        for _ in 0..count {
+            parts.push(self.part(names)?)?;
+        }
+        Ok(parts)
     }
 
     fn claim(&mut self, heap: Global, names: u32) -> anyhow::Result<Claim> {
-        let pure_count = self.next()?;
-        let atom_count = self.next()?;
-        let mut pures = Vec::new(heap);
-        for _ in 0..pure_count {
-            pures.push(self.pure(names)?)?;
-        }
-        let mut atoms = Vec::new(heap);
-        for _ in 0..atom_count {
-            atoms.push(self.atom(names)?)?;
-        }
-        Ok(Claim { pures, atoms })
+        let pures = self.next()?;
+        let atoms = self.next()?;
+        Ok(Claim {
+            pures: self.parts(heap, names, pures)?,
+            atoms: self.parts(heap, names, atoms)?,
+        })
     }
 }
 
@@ -79,7 +68,7 @@ pub fn read(heap: Global, all: &[u32]) -> anyhow::Result<Question> {
     let names = words.next()?;
     let first = words.claim(heap, names)?;
     let second = words.claim(heap, names)?;
-    if words.read != all.len() {
+    if words.left.next().is_some() {
         return Err(anyhow!("there are more words than the question has"));
     }
     Ok(Question {

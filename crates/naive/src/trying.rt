@@ -5,17 +5,14 @@
 // goes on, cell by cell, to every place that it could: to the place of any name, its end among them, or to one
 // without a name, till it is at its end. So every length of every row comes up, and every place inside it. Where a
 // cell would be nowhere, or at a place that has one, or would be the ninth, that memory is given up.
-ghost use Rattle.std.specs.Prelude.{◌≡◌, ◌+◌, ◌<◌, ◌≤◌, length, IfSome};
+ghost use Rattle.std.specs.Prelude.{◌≡◌, ◌≤◌, length};
 
 use crate::cells::{Cell, Cells};
 use crate::dealing::{all_hold, holds, place_of};
 use crate::parts::{Atom, AtomKind, Question};
 
 // So many names can be given places here, with nowhere.
-pub const MOST_NAMES: u32 = 6;
-
-// In so many ways each of them can point at itself or an earlier one: 1 · 2 · 3 · 4 · 5 · 6.
-const WAYS: u32 = 720;
+pub const MOST_NAMES: usize = 6;
 
 // No memory with more cells is tried.
 const MOST_TRIED: usize = 8;
@@ -24,131 +21,118 @@ const MOST_TRIED: usize = 8;
 #[derive(Clone, Copy)]
 pub struct Tried {
     pub follows: bool,
-    // how many memories of the first claim were looked at
+    // how many memories of the first claim were looked at, whether it follows or not
     pub memories: u64,
 }
 
-// A memory that is being made: which of the first claim's cells and rows is being laid out, and where that has come to.
-#[derive(Clone, Copy)]
-struct Making {
+// A memory that is being made, and how many were looked at before.
+#[derive(Drop)]
+struct Making<'a> {
+    question: &'a Question,
+    names: [u32; MOST_NAMES],
     cells: Cells,
-    atom: usize,
-    at: u32,
+    memories: u64,
 }
 
-// What the names stand for in the way of this number, of which each digit says which name is the first that is the same.
-// None, if that one itself is the same as an earlier one, or if the number is for more names.
-fn way(number: u32, names: u32) -> Option<[u32; 6]>
-    requires { names ≤ 6 }
-{
-    let mut places = [0; 6];
-    let mut rest = number;
-    for name in 1..names {
-        let first = rest % (name + 1);
-        rest /= name + 1;
-        if first != name && places[first as usize] != first {
-            return None;
+impl Making<'_> {
+    // Each of these asks, of all the memories that can be made from here on: is one of them against the question?
+
+    // Gives the first so many names places in all ways, the last of them first. Nowhere has its place.
+    fn give_places(&mut self, count: usize) -> bool
+        requires { count ≤ 6 }
+    {
+        if count <= 1 {
+            return self.places_hold() && self.lay(self.question.first.atoms.as_slice());
         }
-        places[name as usize] = first;
-    }
-    if rest == 0 { Some(places) } else { None }
-}
-
-// Begins to lay out the cell or row of this number, if there is one.
-fn begin(atoms: &[Atom], names: &[u32], cells: Cells, atom: usize) -> Making
-    ensures atom { result.atom ≡ atom }
-    ensures cells { result.cells.count ≡ cells.count }
-{
-    let at = match atoms.get(atom) {
-        Some(atom) => place_of(names, atom.from),
-        None => 0,
-    };
-    Making { cells, atom, at }
-}
-
-// Where the choice of this number leads to: the place of a name, if it's the first that is the same, or one without.
-fn chosen(names: &[u32], cells: &Cells, choice: u32) -> Option<u32> {
-    if choice == MOST_NAMES {
-        return Some(MOST_NAMES + cells.len() as u32);
-    }
-    if place_of(names, choice) == choice {
-        Some(choice)
-    } else {
-        None
-    }
-}
-
-// The memory with one cell more, or with one cell or row behind it, by the choice of this number.
-fn next(atoms: &[Atom], names: &[u32], made: Making, choice: u32) -> Option<Making>
-    requires { made.atom < length atoms.now }
-    ensures { IfSome result (λ s. made.atom + made.cells.count < s.atom + s.cells.count) }
-{
-    let atom = atoms[made.atom];
-    let end = place_of(names, atom.to);
-    let place = made.at;
-    match atom.kind {
-        AtomKind::Cell if choice > 0 => None,
-        AtomKind::Cell => {
-            let cells = made.cells.with(Cell { place, leads: end })?;
-            Some(begin(atoms, names, cells, made.atom + 1))
+        let name = count - 1;
+        // loops here and below, since a closure that lays out cells would have to promise that it takes them back
+        for place in 0..count {
+            self.names[name] = place as u32;
+            if self.give_places(name) {
+                return true;
+            }
         }
-        AtomKind::Row if place == end && choice > 0 => None,
-        AtomKind::Row if place == end => Some(begin(atoms, names, made.cells, made.atom + 1)),
-        AtomKind::Row => {
-            let at = chosen(names, &made.cells, choice)?;
-            let cells = made.cells.with(Cell { place, leads: at })?;
-            Some(Making {
-                cells,
-                atom: made.atom,
-                at,
-            })
+        false
+    }
+
+    // Does each name stand for its own place, or for that of an earlier name with its own, and is that as the first
+    // claim says?
+    fn places_hold(&self) -> bool {
+        self.names
+            .iter()
+            .all(|place| place_of(&self.names, *place) == *place)
+            && all_hold(self.question.first.pures.as_slice(), &self.names)
+    }
+
+    // Lays out the cells and rows.
+    #[cycle(lay)]
+    fn lay(&mut self, atoms: &[Atom]) -> bool
+        ensures { length self.new.cells ≡ length self.old.cells }
+    {
+        let Some((atom, rest)) = atoms.split_first() else {
+            return self.is_against();
+        };
+        let from = place_of(&self.names, atom.left);
+        let to = place_of(&self.names, atom.right);
+        match atom.kind {
+            AtomKind::Cell => self.lay_cell(from, to, to, rest),
+            AtomKind::Row => self.lay_row(from, to, rest),
         }
     }
-}
 
-// Is there one against the question among the memories that begin as this one?
-fn grow(question: &Question, names: &[u32], made: Making, looked_at: &mut u64) -> bool {
-    let atoms = question.first.atoms.as_slice();
-    if made.cells.len() > MOST_TRIED {
-        return false;
-    }
-    if made.atom >= atoms.len() {
-        *looked_at = looked_at.saturating_add(1);
-        return !holds(&question.second, names, &made.cells);
-    }
-    for choice in 0..MOST_NAMES + 1 {
-        if let Some(more) = next(atoms, names, made, choice)
-            && grow(question, names, more, looked_at)
-        {
-            return true;
+    // Lays out what is left of a row, and then the others.
+    #[cycle(lay)]
+    fn lay_row(&mut self, at: u32, to: u32, rest: &[Atom]) -> bool
+        ensures { length self.new.cells ≡ length self.old.cells }
+    {
+        if at == to {
+            return self.lay(rest);
         }
+        for place in 0..MOST_NAMES as u32 {
+            if place_of(&self.names, place) == place && self.lay_cell(at, place, to, rest) {
+                return true;
+            }
+        }
+        let unnamed = (MOST_NAMES + self.cells.len()) as u32;
+        self.lay_cell(at, unnamed, to, rest)
     }
-    false
+
+    // Lays out one cell, and then what is left of its row from where the cell leads.
+    #[cycle(lay)]
+    fn lay_cell(&mut self, place: u32, leads: u32, to: u32, rest: &[Atom]) -> bool
+        ensures { length self.new.cells ≡ length self.old.cells }
+    {
+        if self.cells.len() >= MOST_TRIED || self.cells.put(Cell { place, leads }).is_err() {
+            return false;
+        }
+        let found = self.lay_row(leads, to, rest);
+        self.cells.take_back();
+        found
+    }
+
+    // Is the memory, of which the first claim holds, one of which the second doesn't?
+    fn is_against(&mut self) -> bool
+        ensures { length self.new.cells ≡ length self.old.cells }
+    {
+        self.memories = self.memories.saturating_add(1);
+        !holds(&self.question.second, &self.names, &self.cells)
+    }
 }
 
 // Does the second claim follow, as far as memories of up to eight cells show? None, if there are too many names.
 pub fn try_all(question: &Question) -> Option<Tried> {
-    if question.names > MOST_NAMES {
+    if question.names as usize > MOST_NAMES {
         return None;
     }
-    let mut memories = 0;
-    for number in 0..WAYS {
-        let Some(names) = way(number, question.names) else {
-            continue;
-        };
-        if !all_hold(question.first.pures.as_slice(), &names) {
-            continue;
-        }
-        let made = begin(question.first.atoms.as_slice(), &names, Cells::new(), 0);
-        if grow(question, &names, made, &mut memories) {
-            return Some(Tried {
-                follows: false,
-                memories,
-            });
-        }
-    }
+    let mut making = Making {
+        question,
+        names: [0; MOST_NAMES],
+        cells: Cells::new(),
+        memories: 0,
+    };
+    let follows = !making.give_places(question.names as usize);
     Some(Tried {
-        follows: true,
-        memories,
+        follows,
+        memories: making.memories,
     })
 }
