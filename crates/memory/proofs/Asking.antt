@@ -1,17 +1,16 @@
 -- What words ask: the ways of `whole_claim` and of `check`.
-use Rattle.std.proofs.Common.{◌≡◌, ℕ, ◌+◌, ◌*◌, ◌%◌, ◌≤◌, Bool, true, false, T, List, [], ◌∷◌, ◌++◌, length, take, drop, Ok, Err, Result, sym, refl, ap, ◌∙◌, subst, arith}
+use Rattle.std.proofs.Common.{◌≡◌, ℕ, ◌+◌, ◌*◌, ◌%◌, ◌≤◌, T, List, [], ◌∷◌, ◌++◌, length, take, drop, Ok, Err, Result, sym, ap, ◌∙◌, subst, arith}
 use borrow.Rule.Slice.PartMut.{put_mid}
-use Rattle.std.proofs.lemmas.List.{append-nil, take_rest, take-append-drop}
-use Rattle.std.proofs.lemmas.Bool.{both_ways}
+use Rattle.std.proofs.lemmas.List.{append-nil, take-append-drop}
 use Rattle.claims.specs.Claims.{Claim}
 use Rattle.claims.specs.Words.{claim_words, Fits}
 use Rattle.claims.specs.Memory.{Memory, sound}
 use Rattle.claims.specs.Decoding.{decoded_claim, Decodes}
 use Rattle.claims.specs.declared.decoded.Decoded.{Decoded}
-use Rattle.claims.proofs.ClaimWords.{claim_one, length_claim, claim_whole, from}
+use Rattle.claims.proofs.ClaimWords.{claim_one, length_claim, claim_whole}
 use Rattle.memory.specs.Marks.{memory_of}
 use Rattle.memory.specs.Judging.{Judged}
-use Rattle.memory.specs.Checking.{IsClaim, Asks, Room, Asked, Answer, CheckedPost}
+use Rattle.memory.specs.Checking.{IsClaim, Asks, Room, Answer, CheckedPost}
 use Rattle.memory.specs.declared.checks.Refusal.{Refusal}
 use Rattle.memory.specs.declared.deals.Why.{Why}
 use Rattle.memory.proofs.Marking.{memory_words_of, words_memory, length-words}

@@ -1,8 +1,7 @@
 -- From what the code has found to what it answers: `first_false`, and each way of `deal` and `holds`.
-use Rattle.std.proofs.Common.{◌≡◌, ℕ, zero, suc, ◌+◌, ◌/◌, ◌<◌, ◌≤◌, T, true, List, [], ◌∷◌, map, length, get_or, take, set, Some, None, Ok, Err, Option, Result, sym, ap, ◌∙◌, subst, arith}
+use Rattle.std.proofs.Common.{◌≡◌, ℕ, zero, suc, ◌+◌, ◌/◌, ◌<◌, T, true, List, [], ◌∷◌, map, length, get_or, take, set, Some, None, Ok, Err, Option, Result, sym, ap, ◌∙◌, subst, arith}
 use Rattle.std.specs.List.{AllByRecursion}
 use Rattle.std.proofs.lemmas.List.{get_or-map, length-map, take_all}
-use Rattle.claims.specs.Claims as claims
 use Rattle.claims.specs.Memory.{Names, Memory, sound, PureHolds, AtomHolds, Dealt, Parts, Says}
 use Rattle.claims.specs.Meaning.{pure_of, atom_of}
 use Rattle.claims.specs.declared.parts.Pure.{Pure}

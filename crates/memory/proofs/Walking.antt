@@ -7,7 +7,7 @@
 use Rattle.std.proofs.Common.{◌≡◌, ℕ, ◌<◌, true, false, T, eqb, ◌↔◌, [], ◌∷◌, length, Ok, Err, Result, refl, ap, ◌∙◌, subst, arith}
 use Rattle.std.proofs.lemmas.Bool.{both_ways, or_from, ne_eqb}
 use Rattle.claims.specs.Claims.{Atom, cell, row}
-use Rattle.claims.specs.Memory.{Names, at, Memory, here, sound, Parts, IsRow, no_cells, some_cells, AtomHolds}
+use Rattle.claims.specs.Memory.{Names, at, Memory, here, sound, Parts, IsRow, no_cells, some_cells}
 use Rattle.claims.specs.declared.names.Place.{Place}
 use Rattle.memory.specs.Taking.{Takes}
 use Rattle.memory.specs.Walks.{Walk, no_step, step, RowStuck, IsCell, CellTaken, RowTaken, AtomTaken}

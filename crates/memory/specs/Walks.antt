@@ -1,5 +1,5 @@
 -- Looking for a cell or a row among the cells of a memory, from cell to cell.
-use Rattle.std.specs.Prelude.{◌≡◌, ℕ, ◌<◌, false, List, [], ◌∷◌, length, Some, None, Ok, Err, Option, Result, ◌≢◌, slice_index_or}
+use Rattle.std.specs.Prelude.{◌≡◌, ℕ, ◌<◌, false, [], ◌∷◌, length, Some, None, Ok, Err, Option, Result, ◌≢◌, slice_index_or}
 use Rattle.claims.specs.Claims.{Atom, cell, row}
 use Rattle.claims.specs.Memory.{Names, at, Cell, Memory, here, Parts, IsRow, AtomHolds}
 use Rattle.claims.specs.declared.names.Place.{Place}

@@ -1,4 +1,3 @@
-use Rattle.std.proofs.Common.{sym}
 use Rattle.memory.proofs.Placing.{at_none, at_some}
 use Rattle.memory.proofs.cells.SoundMemory.find.Goals as goal
 
