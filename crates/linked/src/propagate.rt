@@ -8,7 +8,7 @@ ghost use Rattle.linked.specs.Propagating.{Propagated};
 
 use crate::atoms::Live;
 use crate::known::Known;
-use crate::steps::round;
+use crate::view::View;
 use claims::Atom;
 
 // What is known of names if a memory is dealt out to these cells and rows, beyond what was known before; or nothing
@@ -27,10 +27,11 @@ pub fn propagate(atoms: &[Atom], mut known: Known) -> Option<Known>
             break 'again;
         }
         before = live.count;
-        let Some(more) = round(&live, &known) else {
-            return None;
+        let view = View {
+            live: &live,
+            known: &known,
         };
-        known = more;
+        known = view.round()?;
     }
     Some(known)
 }
