@@ -3,7 +3,7 @@
 -- If the place of the name s is one of the cells of the atom number e, then no other atom has a cell there: one that
 -- starts there is an empty row, and ends there too. So all names that are reached from s without e stand for that place.
 use Rattle.std.specs.Prelude.{◌≡◌, ℕ, ◌<◌, true, T, List, Some, None, Option, Ok, Err, Result}
-use Rattle.claims.specs.Claims.{Atom}
+use Rattle.claims.specs.Claims.{Atom, cell, row}
 use Rattle.claims.specs.Memory.{Names, at, Memory, sound, Dealt}
 use Rattle.memory.specs.Owners.{Owns}
 use Rattle.linked.specs.Bits.{bit}
@@ -15,6 +15,11 @@ use Rattle.linked.specs.declared.known.Known.{Known}
 abbrev pub Reached : List Atom → ℕ → ℕ → ℕ → Type 0
 Reached cs e s set =
     (n : Names) (m : Memory) → T (sound m) → Owns n cs m e (at n s) → (x : ℕ) → bit set x ≡ true → at n x ≡ at n s
+
+-- the atom is a cell that begins at a name in the set
+abbrev pub CellBegins : ℕ → Atom → Type 0
+CellBegins set (cell x y) = x < 64 → bit set x ≡ true
+CellBegins set (row x y) = ⊥
 
 -- the place of s is never one of the cells of the atom number e
 abbrev pub Barred : Known → List Atom → ℕ → ℕ → Type 0

@@ -1,5 +1,5 @@
 // Sets of names, with a bit for each of 64 names.
-ghost use Rattle.std.specs.Prelude.{◌≡◌, ℕ, ◌<◌, true, false, ◌||◌, ◌==◌};
+ghost use Rattle.std.specs.Prelude.{◌≡◌, ℕ, ◌<◌, ◌≤◌, true, false, ◌||◌, ◌==◌};
 ghost use Rattle.linked.specs.Bits.{bit, has as is-in};
 
 // As one number.
@@ -21,7 +21,8 @@ impl NameMask {
 
     // The set with one more name.
     pub fn with(self, x: u8) -> NameMask
-        ensures { x < 64 → (y : ℕ) → bit result.0 y ≡ (bit self.0 y || y == x) }
+        ensures bits { x < 64 → (y : ℕ) → bit result.0 y ≡ (bit self.0 y || y == x) }
+        ensures grows { self.0 ≤ result.0 }
     {
         NameMask(self.0 | 1u64.wrapping_shl(u32::from(x)))
     }

@@ -20,18 +20,18 @@ pub fn propagate(atoms: &[Atom], mut known: Known) -> Option<Known>
     ensures no_more { NoMore known result }
 {
     let mut before = 65;
-    // Each turn but the last finds a row to be empty, and there are 64.
-    'again: for _turn in 0..65u8 {
+    'again: loop {
         let live = Live::of(atoms, &known);
-        if live.count == before {
-            break 'again;
+        // Each turn but the last finds a row to be empty.
+        if live.count < before {
+            before = live.count;
+            let view = View {
+                live: &live,
+                known: &known,
+            };
+            known = view.round()?;
+            continue 'again;
         }
-        before = live.count;
-        let view = View {
-            live: &live,
-            known: &known,
-        };
-        known = view.round()?;
+        return Some(known);
     }
-    Some(known)
 }

@@ -1,6 +1,5 @@
 // What is reached from a name over the cells and rows other than one.
-ghost use Rattle.std.specs.Prelude.{◌≡◌, ℕ, ◌<◌, true};
-ghost use Rattle.linked.specs.Bits.{bit};
+ghost use Rattle.std.specs.Prelude.{◌≡◌, ◌<◌, ◌≤◌};
 ghost use Rattle.linked.specs.Living.{atoms_of};
 ghost use Rattle.linked.specs.Reaching.{Reached};
 
@@ -26,30 +25,28 @@ impl Live {
         ensures without { result.without ≡ e }
         ensures from { result.from ≡ s }
     {
-        let mut reach = Reach {
-            live: self,
-            without: e,
-            from: s,
-            names: NameMask::new().with(s),
-        };
-        // Each sweep but the last finds one more of 64 names.
-        for _round in 0..64u8 {
-            let more = reach.swept();
-            if more.names == reach.names {
-                break;
+        let mut names = NameMask::new().with(s);
+        'again: loop {
+            let reach = Reach {
+                live: self,
+                without: e,
+                from: s,
+                names,
+            };
+            names = reach.swept();
+            if names != reach.names {
+                continue 'again;
             }
-            reach = more;
+            return reach;
         }
-        reach
     }
 }
 
-impl<'a> Reach<'a> {
-    // After one sweep over the rows: with the end of each that begins at a name that is reached.
-    fn swept(&self) -> Reach<'a>
-        ensures live { result.live.now ≡ self.now.live.now }
-        ensures without { result.without ≡ self.now.without }
-        ensures from { result.from ≡ self.now.from }
+impl Reach<'_> {
+    // The names after one sweep over the rows: with the end of each that begins at one that is reached.
+    fn swept(&self) -> NameMask
+        ensures reached { Reached (atoms_of self.now.live.now) self.now.without self.now.from result.0 }
+        ensures grows { self.now.names.0 ≤ result.0 }
     {
         let mut names = self.names;
         for (j, atom) in self.live.as_slice().iter().enumerate() {
@@ -63,11 +60,6 @@ impl<'a> Reach<'a> {
                 names = names.with(y.0);
             }
         }
-        Reach {
-            live: self.live,
-            without: self.without,
-            from: self.from,
-            names,
-        }
+        names
     }
 }

@@ -22,9 +22,10 @@ impl View<'_> {
     {
         let atom = self.live.get(e);
         let reach = self.live.reach(e, atom.start().0);
+        let barred = reach.is_barred(self.known);
         match atom {
-            Atom::Cell(_, _) if reach.is_barred(self.known) => Err(Never),
-            Atom::Row(x, y) if reach.is_barred(self.known) || reach.names.has(y.0) => Ok(Some((x.0, y.0))),
+            Atom::Cell(_, _) if barred => Err(Never),
+            Atom::Row(x, y) if barred || reach.names.has(y.0) => Ok(Some((x.0, y.0))),
             _ => Ok(None),
         }
     }
