@@ -37,6 +37,8 @@ impl Reach<'_> {
     pub fn is_barred(&self, known: &Known) -> bool
         ensures { result ≡ true → Barred known.now (atoms_of self.now.live.now) self.now.without self.now.from }
     {
-        self.names.has(0) || self.has_cell(known) || (0..64u8).any(|x| self.is_other_reached(known, x))
+        self.names.has(0)
+            || self.has_cell(known)
+            || (0..64u8).any(|x| self.is_other_reached(known, x))
     }
 }
