@@ -51,10 +51,7 @@ impl Known {
     {
         let a = self.find(x);
         let b = self.find(y);
-        if self.others[a as usize].has(b) {
-            return true;
-        }
-        self.others[b as usize].has(a)
+        self.others[a as usize].has(b) || self.others[b as usize].has(a)
     }
 
     // What is known if a and b, which stand for themselves, are the same.

@@ -11,5 +11,5 @@ returns-then-has_cell c t =
       | then-has w ↦
           barred_nowhere c.args.known.now (atoms_of r.live.now) r.without r.from r.names.0 r.reached
           (sym (c.has.ensures (omega arith)) ∙ w.if-has.true)
-      | else-has w ↦ w.has_cell.ensures (sym w.value-is ∙ c.if-has_cell.true)
+      | else-has w ↦ w.has_cell.ensures (sym w.value-is ∙ c.if-has_cell.true) c.args.known.now
     ]
