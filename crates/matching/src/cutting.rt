@@ -9,39 +9,35 @@ ghost use Rattle.matching.specs.Parting.{Only, CutSo};
 use crate::dividing::{append, divide};
 use crate::parts::Part;
 use crate::used::Used;
-use crate::walking::end;
+use claims::Name;
 use linked::atoms::Live;
 use linked::reaching::{has, with};
-use linked::steps::begin;
 
-// The set with the names of an atom of the list, if one of them is in it. Nowhere doesn't count.
-fn touch(list: &Live, j: usize, names: u64) -> u64
-    requires { j < list.now.count }
-{
-    let x = begin(list.get(j));
-    let y = end(list.get(j));
-    if (x != 0 && has(names, x)) || (y != 0 && has(names, y)) {
-        with(with(names, x), y)
-    } else {
-        names
-    }
-}
-
-// The names of the set, and of all atoms of the list that hang together with them in one sweep.
+// The names of the set, and of all atoms of the list that hang together with them in one sweep. Nowhere holds nothing together.
 fn sweep(list: &Live, mut names: u64) -> u64 {
     for j in 0..list.count {
-        names = touch(list, j, names);
+        let x = list.get(j).start().0;
+        let y = list.get(j).end().0;
+        if (x != 0 && has(names, x)) || (y != 0 && has(names, y)) {
+            names = with(with(names, x), y);
+        }
     }
     names
 }
 
+// Nowhere and the first atom's names, if there is one.
+fn first_names(list: &Live) -> Option<u64> {
+    if list.count == 0 {
+        return None;
+    }
+    let first = list.get(0);
+    Some(with(with(with(0, 0), first.start().0), first.end().0))
+}
+
 // The names that hang together with the first atom's, over own and wanted atoms.
-fn together(part: &Part) -> u64 {
-    let mut names = if part.own.count > 0 {
-        with(begin_set(&part.own), 0)
-    } else {
-        with(begin_set(&part.wanted), 0)
-    };
+fn together(part: &Part) -> Option<u64> {
+    let mut names = first_names(&part.own).or_else(|| first_names(&part.wanted))?;
+    // Each round but the last finds one more of 64 names.
     for _round in 0..64u8 {
         let more = sweep(&part.wanted, sweep(&part.own, names));
         if more == names {
@@ -49,25 +45,20 @@ fn together(part: &Part) -> u64 {
         }
         names = more;
     }
-    names
-}
-
-// The first atom's names, if there is one.
-fn begin_set(list: &Live) -> u64 {
-    if list.count == 0 {
-        return 0;
-    }
-    with(with(0, begin(list.get(0))), end(list.get(0)))
+    Some(names)
 }
 
 // Marks on the atoms that have a name in the set besides nowhere, and on those that have none but nowhere.
 fn marks(list: &Live, names: u64) -> Used {
     let mut marks = Used::new();
     for j in 0..list.count {
-        let x = begin(list.get(j));
-        let y = end(list.get(j));
-        let name = if x == 0 { y } else { x };
-        if has(names, name) {
+        let atom = list.get(j);
+        let name = if atom.start() == Name(0) {
+            atom.end()
+        } else {
+            atom.start()
+        };
+        if has(names, name.0) {
             marks.add(j);
         }
     }
@@ -92,7 +83,7 @@ impl Part {
     pub fn cut(&self) -> Option<(Part, Part)>
         ensures { CutSo self.now result }
     {
-        let names = together(self);
+        let names = together(self)?;
         let (own_rest, own_one) = divide(&self.own, &marks(&self.own, names));
         let (wanted_rest, wanted_one) = divide(&self.wanted, &marks(&self.wanted, names));
         if own_rest.count + wanted_rest.count == 0 || own_one.count + wanted_one.count == 0 {

@@ -1,8 +1,9 @@
 // Lists of atoms, put together and taken apart.
 ghost use Rattle.std.specs.Prelude.{◌≡◌, ◌+◌, ◌<◌, ◌≤◌, ◌++◌};
 ghost use Rattle.linked.specs.Living.{Lives, atoms_of};
-ghost use Rattle.matching.specs.Parting.{Divided};
+ghost use Rattle.matching.specs.Parting.{Divided, whole_of};
 
+use crate::parts::Part;
 use crate::used::Used;
 use linked::atoms::Live;
 use linked::known::Known;
@@ -30,9 +31,9 @@ pub fn divide(list: &Live, marks: &Used) -> (Live, Live)
         let atom = list.get(j);
         if marks.has(j) {
             marked = marked.with(atom);
-            continue;
+        } else {
+            free = free.with(atom);
         }
-        free = free.with(atom);
     }
     (free, marked)
 }
@@ -43,4 +44,14 @@ pub fn renamed(list: &Live, known: &Known) -> Live
     ensures no_more { result.count ≤ list.now.count }
 {
     Live::of(&list.atoms[0..list.count], known)
+}
+
+impl Part {
+    // All atoms of the first claim, the part's own in front.
+    pub fn whole(&self) -> Live
+        ensures all { atoms_of result ≡ whole_of self.now }
+        ensures count { result.count ≡ self.now.own.count + self.now.others.count }
+    {
+        append(&self.own, &self.others)
+    }
 }

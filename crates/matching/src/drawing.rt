@@ -3,7 +3,6 @@ ghost use Rattle.linked.specs.Knowing.{NoMore};
 ghost use Rattle.linked.specs.Propagating.{Propagated};
 ghost use Rattle.matching.specs.Parting.{whole_of};
 
-use crate::dividing::append;
 use crate::parts::Part;
 use linked::known::Known;
 use linked::propagate::propagate;
@@ -13,6 +12,6 @@ pub fn draw(part: &Part, known: Known) -> Option<Known>
     ensures propagated { Propagated (whole_of part.now) known result }
     ensures no_more { NoMore known result }
 {
-    let whole = append(&part.own, &part.others);
+    let whole = part.whole();
     propagate(&whole.atoms[0..whole.count], known)
 }

@@ -8,7 +8,7 @@ use Rattle.matching.proofs.drawing.draw.Goals as goal
 
 pub propagate-requires : goal.propagate-requires
 propagate-requires c =
-    let l = c.append-whole.result in
+    let l = c.whole-whole.result in
     record {
       few = omega (arith, length-take (l.count - 0) l.atoms, l.few);
       small = front_all (AtomBelow 64) atom_of l.count l.atoms (below_64 l);
@@ -16,8 +16,8 @@ propagate-requires c =
 
 pub returns : goal.returns
 returns c =
-    let l = c.append-whole.result in
-    let whole = ap (map atom_of) (front l.count l.atoms) ∙ c.append-whole.ensures.all in
+    let l = c.whole-whole.result in
+    let whole = ap (map atom_of) (front l.count l.atoms) ∙ c.whole-whole.ensures.all in
     record {
       propagated = subst (λ (ls : List Atom). Propagated ls c.args.known c.propagate.result) whole c.propagate.ensures.propagated;
       no_more = c.propagate.ensures.no_more;

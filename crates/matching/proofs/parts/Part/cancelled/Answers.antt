@@ -1,11 +1,9 @@
-use Rattle.std.proofs.Common.{List, ◌++◌, sym, subst, arith}
+use Rattle.std.proofs.Common.{List, refl, sym, subst, arith}
 use Rattle.claims.specs.Claims.{Atom}
 use Rattle.claims.specs.Meaning.{atom_of}
 use Rattle.linked.specs.Living.{atoms_of}
 use Rattle.linked.proofs.Reach.{live-length}
 use Rattle.matching.specs.Parting.{wanted_of, Regrouped}
-use Rattle.matching.specs.Rules.{Made}
-use Rattle.matching.specs.Using.{free}
 use Rattle.matching.proofs.Lists.{empty_list, live_push}
 use Rattle.matching.proofs.Parting.{regrouped, cancel_none, cancel_found, cancel_kept, cancel_all}
 use Rattle.matching.proofs.parts.Part.cancelled.Goals as goal
@@ -14,28 +12,26 @@ pub loop-i-init : goal.loop-i-init
 loop-i-init c =
     let p = c.args.self.now in (
       omega (arith, c.new-wanted.ensures),
-      cancel_none c.args.known.now p.own (atoms_of p.others) (wanted_of p) c.new-used.result (atoms_of c.new-wanted.result) c.new-used.ensures (empty_list c.new-wanted.result c.new-wanted.ensures),
+      cancel_none c.args.known.now p.own (atoms_of p.others) (wanted_of p) c.rest (atoms_of c.new-wanted.result)
+        (record { knfront = refl; all = c.whole.ensures.all; front = refl; })
+        c.new.ensures (empty_list c.new-wanted.result c.new-wanted.ensures),
     )
 
-pub loop-i-preserved : goal.loop-i-preserved
-loop-i-preserved c =
-    let k = c.args.known.now in
+pub loop-i-preserved-in-Some : goal.loop-i-preserved-in-Some
+loop-i-preserved-in-Some c =
     let p = c.args.self.now in
-    let a = atom_of c.get-atom.result in
-    let made =
-    subst (λ (ls : List Atom). Made k ls a (free p.own.count c.loop-i.used ls) (free p.own.count c.in-Some.more ls)) c.append-whole.ensures.all c.in-Some.ensures in (
+    let a = atom_of c.get-atom.result in (
       omega (arith, c.loop-i.invariant.0),
-      cancel_found k p.own (atoms_of p.others) (wanted_of p) c.loop-i.used (atoms_of c.loop-i.wanted) c.loop-i.i a (omega (arith, live-length p.wanted, c.loop-i-test.true)) c.get-atom.ensures.is
-          c.loop-i.invariant.1 c.in-Some.more made,
+      cancel_found c.args.known.now p.own (atoms_of p.others) (wanted_of p) c.loop-i.rest (atoms_of c.loop-i.wanted) c.loop-i.i a (omega (arith, live-length p.wanted, c.loop-i-test.true)) c.get-atom.ensures.is
+          c.loop-i.invariant.1 c.in-Some.less c.in-Some.ensures,
     )
 
-pub loop-i-preserved-in_default : goal.loop-i-preserved-in_default
-loop-i-preserved-in_default c =
-    let k = c.args.known.now in
+pub loop-i-preserved-in-None : goal.loop-i-preserved-in-None
+loop-i-preserved-in-None c =
     let p = c.args.self.now in
     let a = atom_of c.get-atom.result in (
       omega (arith, c.loop-i.invariant.0, c.with-wanted.ensures.count),
-      cancel_kept k p.own (atoms_of p.others) (wanted_of p) c.loop-i.used (atoms_of c.loop-i.wanted) c.loop-i.i a (omega (arith, live-length p.wanted, c.loop-i-test.true)) c.get-atom.ensures.is
+      cancel_kept c.args.known.now p.own (atoms_of p.others) (wanted_of p) c.loop-i.rest (atoms_of c.loop-i.wanted) c.loop-i.i a (omega (arith, live-length p.wanted, c.loop-i-test.true)) c.get-atom.ensures.is
           c.loop-i.invariant.1 (atoms_of c.with-wanted.result) (live_push c.loop-i.wanted c.with-wanted.result c.get-atom.result c.with-wanted.ensures.more),
     )
 
@@ -49,7 +45,7 @@ returns c =
     let behind = c.append-others.ensures.all in
     record {
       comes_to =
-          cancel_all k p.own others (wanted_of p) c.loop-i.used (atoms_of c.loop-i.wanted) (atoms_of own) c.loop-i.i (omega (arith, live-length p.wanted, c.loop-i-test.false)) parts.free c.loop-i.invariant.1;
+          cancel_all k p.own others (wanted_of p) c.loop-i.rest (atoms_of c.loop-i.wanted) (atoms_of own) c.loop-i.i (omega (arith, live-length p.wanted, c.loop-i-test.false)) parts.free c.loop-i.invariant.1;
       whole = subst (λ (l : List Atom). Regrouped (atoms_of p.own ++ others) (atoms_of own ++ l)) (sym behind) (regrouped others parts.parts);
       no_more = omega (arith, parts.count, c.loop-i.invariant.0, c.loop-i.auto.i-end);
     }
