@@ -1,8 +1,8 @@
 -- Using up atoms.
 --
--- taken_out: an atom that is marked is taken out of those that were free; goes_over: and a row goes over it.
--- all_free: where nothing is marked all are free.
-use Rattle.std.proofs.Common.{◌≡◌, ℕ, zero, suc, Bool, ◌<◌, ◌≤◌, true, false, List, [], ◌∷◌, map, length, get_or, take, set, sym, refl, ap, ap₂, ◌∙◌, subst, subst₂, arith}
+-- taken_out: an atom that is marked is taken out of those that are left; goes_over: and a row goes over it; fewer_left: so the row ends.
+-- all_free: where nothing is used all are left.
+use Rattle.std.proofs.Common.{◌≡◌, ℕ, suc, Bool, ◌<◌, ◌≤◌, true, false, List, [], ◌∷◌, map, length, get_or, take, set, sym, refl, ap, ap₂, ◌∙◌, subst, subst₂, arith}
 use lib.ListN.{length-map}
 use Rattle.std.proofs.lemmas.List.{get_or-take, get_or-map, map-set, length-take-le}
 use Rattle.claims.specs.Claims.{Atom, row}
@@ -12,9 +12,8 @@ use Rattle.memory.specs.Owners.{end}
 use Rattle.memory.specs.Taking.{Put, put_here, put_later}
 use Rattle.memory.proofs.Parts.{parts_none}
 use Rattle.memory.proofs.Marking.{mark_out}
-use Rattle.linked.specs.declared.known.Known.{Known}
 use Rattle.matching.specs.Rules.{MadeOf, over}
-use Rattle.matching.specs.Using.{mark, free, IsFree, all_of, left_of, LeftOf, Goes_on}
+use Rattle.matching.specs.Using.{mark, IsFree, all_of, left_of, LeftOf, Begins, Goes_on}
 use Rattle.matching.specs.declared.rests.Rest.{Rest}
 use Rattle.matching.specs.declared.used.Used.{Used}
 use Rattle.linked.specs.Living.{atoms_of}
@@ -43,20 +42,42 @@ module _ (r q : Rest) (e : ℕ) (within : e < r.own) (there : IsFree r.used e) (
 
   pub taken_out : Put (atom_at r e) (left_of q) (left_of r)
   taken_out =
-      let in_list = omega (arith, length-take-le r.own (all_of r) (own_within r)) in
+      let in_list : e < length (take r.own (all_of r)) = omega (arith, length-take-le r.own (all_of r) (own_within r)) in
       let in_marks : e < length r.used.marks = omega (arith, r.used.all, own_within r, live-length r.live.now, r.live.now.few) in
-      let flag = get_or-map mark r.used.marks e false 0 in_marks ∙ ap mark there in
-      let out = mark_out (map mark r.used.marks) (take r.own (all_of r)) e (row 0 0) in_list (omega (arith, length-map r.used.marks mark, in_marks)) flag in
+      let marked_too : e < length (map mark r.used.marks) = omega (arith, length-map r.used.marks mark, in_marks) in
+      let flag : get_or (map mark r.used.marks) e 0 ≡ 0 = get_or-map mark r.used.marks e false 0 in_marks ∙ ap mark there in
+      let out = mark_out (map mark r.used.marks) (take r.own (all_of r)) e (row 0 0) in_list marked_too flag in
       one_put (subst₂ (λ a l. Parts (a ∷ []) l (left_of r)) (get_or-take r.own (all_of r) e (row 0 0) within) (sym left_is) out)
 
--- a row goes over it
-pub goes_over :
-    (r q : Rest) (s t e : ℕ) → Goes_on r s t e → LeftOf r q → q.used.marks ≡ set r.used.marks e true → (os : List Atom) →
-    MadeOf r.known.now (all_of r) t (end (atom_at r e)) (left_of q) os → MadeOf r.known.now (all_of r) t s (left_of r) os
-goes_over r q s t e on of marked os more =
-    let begins = on.begins in
-    let in_list : e < length (all_of r) = omega (arith, begins.within, own_within r) in
-    over e in_list refl begins.start_is (taken_out r q e begins.within begins.there of marked) on.outside more
+put_length : {A : Type 0} {a : A} {b m : List A} → Put a b m → length m ≡ suc (length b)
+put_length put_here = refl
+put_length (put_later t) = ap suc (put_length t)
+
+pub left_trans : (p r q : Rest) → LeftOf p r → LeftOf r q → LeftOf p q
+left_trans p r q f g = record { live = g.live ∙ f.live; own = g.own ∙ f.own; known = g.known ∙ f.known }
+
+-- a row that comes from p goes over it
+module _ (p r q : Rest) (s t e : ℕ) (on : Goes_on r s t e) (back : LeftOf p r) (of : LeftOf r q)
+    (marked : q.used.marks ≡ set r.used.marks e true) where
+  begins : Begins r s e
+  begins = on.begins
+
+  out : Put (atom_at r e) (left_of q) (left_of r)
+  out = taken_out r q e begins.within begins.there of marked
+
+  pub goes_over :
+      (x : ℕ) → end (atom_at r e) ≡ x → (os : List Atom) → MadeOf p.known.now (all_of p) t x (left_of q) os →
+      MadeOf p.known.now (all_of p) t s (left_of r) os
+  goes_over x at_end os more =
+      let in_list : e < length (all_of r) = omega (arith, begins.within, own_within r) in
+      let ahead =
+      subst₂ (λ k l. MadeOf k (atoms_of l) t (end (atom_at r e)) (left_of q) os) (sym back.known) (sym back.live)
+      (subst (λ y. MadeOf p.known.now (all_of p) t y (left_of q) os) (sym at_end) more) in
+      subst₂ (λ k l. MadeOf k (atoms_of l) t s (left_of r) os) back.known back.live (over e in_list refl begins.start_is out on.outside ahead)
+
+  -- and fewer are left
+  pub fewer_left : length (left_of q) < length (left_of r)
+  fewer_left = omega (arith, put_length out)
 
 -- where nothing is used all are left
 pub all_free : (u : Used) (ls : List Atom) → ((i : ℕ) → i < 64 → IsFree u i) → length ls ≤ 64 → unmarked (map mark u.marks) ls ≡ ls

@@ -83,11 +83,11 @@ module _ (k : Known) (own : Live) (es ws : List Atom) where
     cancel_found q (of, made) =
         let here = before.0 in
         let found = subst₂ (λ j ls. Made j ls a (left_of r) (left_of q)) here.known here.all made in (
-          record { known = of.known ∙ here.known; all = ap atoms_of of.live ∙ here.all; front = of.own ∙ here.front; },
+          record { known = of.known ∙ here.known; all = ap atoms_of of.live ∙ here.all; front = of.own ∙ here.front },
           λ m c d lives closed.
-            before.1 m c d lives
-            (subst (λ l. Closed m c d (Some k) (left_of r) (left ++ l)) (sym this)
-            (taken lives (put_middle left a (drop (i + 1) ws)) found closed)),
+              before.1 m c d lives
+              (subst (λ l. Closed m c d (Some k) (left_of r) (left ++ l)) (sym this)
+              (taken lives (put_middle left a (drop (i + 1) ws)) found closed)),
         )
 
     pub cancel_kept : (more : List Atom) → more ≡ left ++ a ∷ [] → LeftTo r (more ++ drop (i + 1) ws)

@@ -1,5 +1,5 @@
 -- The atoms that are not used up, and what using some of them promises.
-use Rattle.std.specs.Prelude.{◌≡◌, ℕ, ◌<◌, Bool, false, cond, T, List, get_or, map, take, Some, None, Option, ◌≢◌, slice_index, slice_index_or}
+use Rattle.std.specs.Prelude.{◌≡◌, ℕ, ◌<◌, Bool, false, cond, T, List, get_or, map, take, Some, None, Option, ◌≢◌, slice_index_or}
 use Rattle.claims.specs.Claims.{Atom, cell, row}
 use Rattle.claims.specs.Memory.{Names, at, Memory, sound}
 use Rattle.memory.specs.Marks.{unmarked}

@@ -4,7 +4,6 @@ ghost use Rattle.matching.specs.Parting.{Renamed, Cancelled};
 use crate::dividing::{append, divide, renamed};
 use crate::parts::Part;
 use crate::rests::Rest;
-use crate::used::Used;
 use linked::atoms::Live;
 use linked::known::Known;
 
@@ -28,12 +27,7 @@ impl Part {
         ensures { Cancelled known.now self.now result }
     {
         let whole = self.whole();
-        let mut rest = Rest {
-            live: &whole,
-            own: self.own.count,
-            known,
-            used: Used::new(),
-        };
+        let mut rest = Rest::new(&whole, self.own.count, known);
         let mut wanted = Live::new();
         for i in 0..self.wanted.count {
             let atom = self.wanted.get(i);

@@ -1,9 +1,11 @@
 // Using up the first claim's cells and rows for those of the second.
-ghost use Rattle.std.specs.Prelude.{◌≡◌, ℕ, ◌<◌, slice_index_or, slice_set, false, true};
+ghost use Rattle.std.specs.Prelude.{◌≡◌, ℕ, ◌<◌, ◌≤◌, slice_index_or, slice_set, false, true};
 ghost use Rattle.matching.specs.Using.{IsFree, LeftOf};
 
 use crate::rests::Rest;
 use crate::used::Used;
+use linked::atoms::Live;
+use linked::known::Known;
 
 impl Used {
     // Nothing is used.
@@ -30,6 +32,22 @@ impl Used {
 }
 
 impl<'a> Rest<'a> {
+    // Of these atoms the first `own` may be used, and all of them are still there.
+    pub fn new(live: &'a Live, own: usize, known: &'a Known) -> Rest<'a>
+        requires { own ≤ live.now.count }
+        ensures live { result.live.now ≡ live.now }
+        ensures own { result.own ≡ own }
+        ensures known { result.known.now ≡ known.now }
+        ensures free { (i : ℕ) → i < 64 → IsFree result.used i }
+    {
+        Rest {
+            live,
+            own,
+            known,
+            used: Used::new(),
+        }
+    }
+
     // What is left when the atom number e is used as well.
     pub fn without(&self, e: usize) -> Rest<'a>
         requires { e < 64 }

@@ -7,7 +7,7 @@ ghost use Rattle.claims.specs.Meaning.{atom_of};
 ghost use Rattle.claims.specs.Words.{AtomBelow};
 ghost use Rattle.linked.specs.Living.{atoms_of};
 ghost use Rattle.linked.specs.Reaching.{Reached, Barred};
-ghost use Rattle.matching.specs.Using.{OtherThan, ComesNext, RowUsed, CellThere, AtomUsed};
+ghost use Rattle.matching.specs.Using.{OtherThan, all_of, ComesNext, RowUsed, CellThere, AtomUsed};
 
 use crate::rests::Rest;
 use crate::steps::Next;
@@ -26,23 +26,21 @@ fn apart_from(live: &Live, known: &Known, e: usize, t: u8, set: u64, u: u8) -> b
     (0..64u8).any(|x| has(set, x) && known.other(x, u))
 }
 
-// Is the place of t never one of the cells of the atom number e?
-pub fn outside(live: &Live, known: &Known, e: usize, t: u8) -> bool
-    requires within { e < live.now.count }
-    requires small { t < 64 }
-    ensures { result ≡ true → Barred known.now (atoms_of live.now) e t }
-{
-    let set = reach(live, e, t);
-    if barred(live, known, e, t, set) {
-        return true;
-    }
-    match live.get(e) {
-        Atom::Cell(u, _) => apart_from(live, known, e, t, set, u.0),
-        Atom::Row(_, w) => has(set, w.0),
-    }
-}
-
 impl<'a> Rest<'a> {
+    // Is the place of t never one of the cells of the atom number e?
+    pub fn outside(&self, e: usize, t: u8) -> bool
+        requires within { e < self.now.live.now.count }
+        requires small { t < 64 }
+        ensures { result ≡ true → Barred self.now.known.now (all_of self.now) e t }
+    {
+        let set = reach(self.live, e, t);
+        barred(self.live, self.known, e, t, set)
+            || match self.live.get(e) {
+                Atom::Cell(u, _) => apart_from(self.live, self.known, e, t, set, u.0),
+                Atom::Row(_, w) => has(set, w.0),
+            }
+    }
+
     // What comes next on the way of a row that is at s and ends at t. Where several atoms begin, only one that leads to t.
     pub fn next(&self, s: u8, t: u8) -> Next
         requires { t < 64 }
@@ -50,10 +48,7 @@ impl<'a> Rest<'a> {
     {
         let one = self.ways(s) < 2;
         for e in 0..self.own {
-            if self.begins(e, s)
-                && (one || self.leads(e, t))
-                && outside(self.live, self.known, e, t)
-            {
+            if self.begins(e, s) && (one || self.leads(e, t)) && self.outside(e, t) {
                 return Next::Over(e);
             }
         }

@@ -26,7 +26,7 @@ loop-j-preserved c =
     let room : 64 ≤ length w = omega (arith, length-map marks.marks mark, marks.all) in
     let mark_is : get_or w j 0 ≡ mark c.has.result = get_or-map mark marks.marks j false 0 in_marks ∙ ap mark (sym c.has.ensures) in
     elim c.if-has.branch [
-      then-has b ↦
+      | then-has b ↦
           subst₂ (λ f m. DividedTo l w f m (j + 1)) (sym b.free-is) (sym b.marked-is)
           (divided_marked l w c.loop-j.free c.loop-j.marked b.with-marked.result j c.get-atom.result c.loop-j-test.true room c.get-atom.ensures.is
           before b.with-marked.ensures.more b.with-marked.ensures.count (λ e. absurd (omega (arith, e, mark_is ∙ ap mark b.if-has.true))))

@@ -1,6 +1,6 @@
 use Rattle.std.proofs.Common.{ℕ, Some, None, Option, sym, subst}
 use Rattle.memory.specs.Taking.{Put}
-use Rattle.claims.specs.Claims.{Atom as ClaimAtom, cell, row}
+use Rattle.claims.specs.Claims.{Atom as ClaimAtom, row}
 use Rattle.claims.specs.Meaning.{atom_of}
 use Rattle.claims.specs.declared.parts.Atom.{Atom}
 use Rattle.matching.specs.Rules.{made_cell, made_row}
