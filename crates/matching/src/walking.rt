@@ -47,12 +47,9 @@ impl<'a> Rest<'a> {
         ensures { ComesNext self.now s t result }
     {
         let one = self.ways(s) < 2;
-        for e in 0..self.own {
-            if self.begins(e, s) && (one || self.leads(e, t)) && self.outside(e, t) {
-                return Next::Over(e);
-            }
-        }
-        Next::Stuck
+        (0..self.own)
+            .find(|e| self.begins(*e, s) && (one || self.leads(*e, t)) && self.outside(*e, t))
+            .map_or(Next::Stuck, Next::Over)
     }
 
     // What is left when a row from s to t is made.
