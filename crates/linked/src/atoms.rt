@@ -6,6 +6,7 @@ ghost use Rattle.linked.specs.Spare.{spare};
 
 use claims::{Atom, Name};
 
+// An array with a count, since a vector of fixed capacity is not `Copy`, and parts of questions are handed on by value.
 #[derive(Clone, Copy)]
 pub struct Live {
     pub atoms: [Atom; 64],
@@ -41,5 +42,15 @@ impl Live {
             atoms,
             count: self.count + 1,
         }
+    }
+
+    // The atoms, in order.
+    pub fn as_slice(&self) -> &[Atom]
+        ensures value { result.now ≡ take self.now.count self.now.atoms }
+        ensures count { length result.now ≡ self.now.count }
+        ensures starts { (j : ℕ) → j < length result.now → start (atom_of (slice_index_or result.now j spare)) < 64 }
+        ensures ends { (j : ℕ) → j < length result.now → end (atom_of (slice_index_or result.now j spare)) < 64 }
+    {
+        &self.atoms[..self.count]
     }
 }

@@ -27,12 +27,8 @@ impl Known {
         ensures below { result < 64 }
     {
         let mut at = x;
-        for _step in 0..64u8 {
-            let up = self.stands[at as usize];
-            if up == at {
-                break;
-            }
-            at = up;
+        while self.stands[at as usize] != at {
+            at = self.stands[at as usize];
         }
         at
     }

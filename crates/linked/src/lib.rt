@@ -21,3 +21,4 @@ pub mod propagate;
 pub mod reaching;
 pub mod settle;
 pub mod steps;
+pub mod view;
