@@ -5,7 +5,7 @@
 -- cancel_none, cancel_found, cancel_kept, cancel_all: the turns of a loop that takes out what is found.
 use Rattle.std.proofs.Common.{◌≡◌, ℕ, ◌+◌, ◌<◌, ◌≤◌, List, [], ◌∷◌, ◌++◌, map, length, get_or, take, drop, Some, sym, ap, ap₂, ◌∙◌, subst, subst₂, arith}
 use Rattle.std.proofs.lemmas.List.{append-nil, append_assoc, drop_more, drop_all, take_at}
-use Rattle.claims.specs.Claims.{Atom}
+use Rattle.claims.specs.Claims.{Atom, row}
 use Rattle.claims.specs.Memory.{Parts}
 use Rattle.memory.specs.Marks.{unmarked}
 use Rattle.memory.specs.Taking.{Put, put_here, put_later}
@@ -74,10 +74,10 @@ module _ (k : Known) (own : Live) (es ws : List Atom) where
         λ m c d lives closed. subst₂ (λ x y. Closed m c d (Some k) x (y ++ ws)) (here ∙ all) e closed,
       )
 
-  module _ (r : Rest) (left : List Atom) (i : ℕ) (a : Atom) (within : i < length ws) (is : (d : Atom) → get_or ws i d ≡ a)
+  module _ (r : Rest) (left : List Atom) (i : ℕ) (a : Atom) (within : i < length ws) (is : get_or ws i (row 0 0) ≡ a)
       (before : LeftTo r (left ++ drop i ws)) where
     this : drop i ws ≡ a ∷ drop (i + 1) ws
-    this = drop_more ws i a within ∙ ap (λ x. x ∷ drop (i + 1) ws) (is a)
+    this = drop_more ws i (row 0 0) within ∙ ap (λ x. x ∷ drop (i + 1) ws) is
 
     pub cancel_found : (q : Rest) → AtomUsed r a (Some q) → LeftTo q (left ++ drop (i + 1) ws)
     cancel_found q (of, made) =

@@ -29,11 +29,10 @@ impl Part {
         let whole = self.whole();
         let mut rest = Rest::new(&whole, self.own.count, known);
         let mut wanted = Live::new();
-        for i in 0..self.wanted.count {
-            let atom = self.wanted.get(i);
-            match rest.without_atom(atom) {
+        for atom in self.wanted.as_slice() {
+            match rest.without_atom(*atom) {
                 Some(less) => rest = less,
-                None => wanted = wanted.with(atom),
+                None => wanted = wanted.with(*atom),
             }
         }
         let (own, gone) = divide(&self.own, &rest.used);

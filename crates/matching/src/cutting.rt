@@ -3,7 +3,7 @@
 // Cells and rows that share no name but nowhere say nothing of each other, so they can be settled one after the other,
 // where together they would have to be gone through in all combinations. Which atoms go together is free of proof: any
 // cut is right.
-ghost use Rattle.std.specs.Prelude.{◌+◌, ◌<◌, ◌≤◌};
+ghost use Rattle.std.specs.Prelude.{◌+◌, ◌≤◌};
 ghost use Rattle.matching.specs.Parting.{Only, CutSo};
 
 use crate::dividing::{append, divide};
@@ -11,54 +11,50 @@ use crate::parts::Part;
 use crate::used::Used;
 use claims::Name;
 use linked::atoms::Live;
-use linked::reaching::{has, with};
+use linked::bits::NameMask;
 
 // The names of the set, and of all atoms of the list that hang together with them in one sweep. Nowhere holds nothing together.
-fn sweep(list: &Live, mut names: u64) -> u64 {
-    for j in 0..list.count {
-        let x = list.get(j).start().0;
-        let y = list.get(j).end().0;
-        if (x != 0 && has(names, x)) || (y != 0 && has(names, y)) {
-            names = with(with(names, x), y);
+fn sweep(list: &Live, mut names: NameMask) -> NameMask
+    ensures { names.0 ≤ result.0 }
+{
+    for atom in list.as_slice() {
+        let x = atom.start().0;
+        let y = atom.end().0;
+        if (x != 0 && names.has(x)) || (y != 0 && names.has(y)) {
+            names = names.with(x).with(y);
         }
     }
     names
 }
 
-// Nowhere and the first atom's names, if there is one.
-fn first_names(list: &Live) -> Option<u64> {
-    if list.count == 0 {
-        return None;
-    }
-    let first = list.get(0);
-    Some(with(with(with(0, 0), first.start().0), first.end().0))
-}
-
-// The names that hang together with the first atom's, over own and wanted atoms.
-fn together(part: &Part) -> Option<u64> {
-    let mut names = first_names(&part.own).or_else(|| first_names(&part.wanted))?;
-    // Each round but the last finds one more of 64 names.
-    for _round in 0..64u8 {
+// Nowhere and the names that hang together with the first atom's, over own and wanted atoms.
+fn together(part: &Part) -> Option<NameMask> {
+    let own = part.own.as_slice().first();
+    let first = own.or(part.wanted.as_slice().first())?;
+    let mut names = NameMask::new()
+        .with(0)
+        .with(first.start().0)
+        .with(first.end().0);
+    'again: loop {
         let more = sweep(&part.wanted, sweep(&part.own, names));
-        if more == names {
-            break;
+        if more != names {
+            names = more;
+            continue 'again;
         }
-        names = more;
+        return Some(names);
     }
-    Some(names)
 }
 
 // Marks on the atoms that have a name in the set besides nowhere, and on those that have none but nowhere.
-fn marks(list: &Live, names: u64) -> Used {
+fn marks(list: &Live, names: NameMask) -> Used {
     let mut marks = Used::new();
-    for j in 0..list.count {
-        let atom = list.get(j);
+    for (j, atom) in list.as_slice().iter().enumerate() {
         let name = if atom.start() == Name(0) {
             atom.end()
         } else {
             atom.start()
         };
-        if has(names, name.0) {
+        if names.has(name.0) {
             marks.add(j);
         }
     }

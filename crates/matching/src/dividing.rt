@@ -15,8 +15,8 @@ pub fn append(front: &Live, back: &Live) -> Live
     ensures count { result.count ≡ front.now.count + back.now.count }
 {
     let mut all = *front;
-    for j in 0..back.count {
-        all = all.with(back.get(j));
+    for atom in back.as_slice() {
+        all = all.with(*atom);
     }
     all
 }
@@ -27,12 +27,11 @@ pub fn divide(list: &Live, marks: &Used) -> (Live, Live)
 {
     let mut free = Live::new();
     let mut marked = Live::new();
-    for j in 0..list.count {
-        let atom = list.get(j);
+    for (j, atom) in list.as_slice().iter().enumerate() {
         if marks.has(j) {
-            marked = marked.with(atom);
+            marked = marked.with(*atom);
         } else {
-            free = free.with(atom);
+            free = free.with(*atom);
         }
     }
     (free, marked)
@@ -43,7 +42,7 @@ pub fn renamed(list: &Live, known: &Known) -> Live
     ensures lives { Lives known.now (atoms_of list.now) (atoms_of result) }
     ensures no_more { result.count ≤ list.now.count }
 {
-    Live::of(&list.atoms[0..list.count], known)
+    Live::of(list.as_slice(), known)
 }
 
 impl Part {

@@ -12,6 +12,5 @@ pub fn draw(part: &Part, known: Known) -> Option<Known>
     ensures propagated { Propagated (whole_of part.now) known result }
     ensures no_more { NoMore known result }
 {
-    let whole = part.whole();
-    propagate(&whole.atoms[0..whole.count], known)
+    propagate(part.whole().as_slice(), known)
 }

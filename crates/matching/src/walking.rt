@@ -6,24 +6,21 @@ ghost use Rattle.std.specs.Prelude.{◌≡◌, ◌<◌, true, IfSome};
 ghost use Rattle.claims.specs.Meaning.{atom_of};
 ghost use Rattle.claims.specs.Words.{AtomBelow};
 ghost use Rattle.linked.specs.Living.{atoms_of};
-ghost use Rattle.linked.specs.Reaching.{Reached, Barred};
+ghost use Rattle.linked.specs.Reaching.{Barred};
 ghost use Rattle.matching.specs.Using.{OtherThan, all_of, ComesNext, RowUsed, CellThere, AtomUsed};
 
 use crate::rests::Rest;
 use crate::steps::Next;
 use claims::{Atom, Name};
-use linked::atoms::Live;
-use linked::barring::barred;
 use linked::known::Known;
-use linked::reaching::{has, reach};
+use linked::reaching::Reach;
 
-// Is one of the set, which would all stand for the place of t, known to be other than u, where the cell number e is?
-fn apart_from(live: &Live, known: &Known, e: usize, t: u8, set: u64, u: u8) -> bool
-    requires small { u < 64 }
-    requires reached { Reached (atoms_of live.now) e t set }
-    ensures { result ≡ true → OtherThan known.now (atoms_of live.now) e t u }
+// Is a name that is reached, and so would stand for the place, known to be other than u?
+fn apart_from(reach: &Reach, known: &Known, u: u8) -> bool
+    requires { u < 64 }
+    ensures { result ≡ true → OtherThan known.now (atoms_of reach.now.live.now) reach.now.without reach.now.from u }
 {
-    (0..64u8).any(|x| has(set, x) && known.other(x, u))
+    (0..64u8).any(|x| reach.names.has(x) && known.other(x, u))
 }
 
 impl<'a> Rest<'a> {
@@ -33,11 +30,11 @@ impl<'a> Rest<'a> {
         requires small { t < 64 }
         ensures { result ≡ true → Barred self.now.known.now (all_of self.now) e t }
     {
-        let set = reach(self.live, e, t);
-        barred(self.live, self.known, e, t, set)
+        let reach = self.live.reach(e, t);
+        reach.is_barred(self.known)
             || match self.live.get(e) {
-                Atom::Cell(u, _) => apart_from(self.live, self.known, e, t, set, u.0),
-                Atom::Row(_, w) => has(set, w.0),
+                Atom::Cell(u, _) => apart_from(&reach, self.known, u.0),
+                Atom::Row(_, w) => reach.names.has(w.0),
             }
     }
 

@@ -1,9 +1,9 @@
 // Ways over the atoms that are still there: they guide a walk where several atoms begin, and nothing is promised of them.
-ghost use Rattle.std.specs.Prelude.{◌≡◌, ◌<◌, true};
+ghost use Rattle.std.specs.Prelude.{◌≡◌, ◌<◌, ◌≤◌, true};
 ghost use Rattle.matching.specs.Using.{Begins};
 
 use crate::rests::Rest;
-use linked::reaching::{has, with};
+use linked::bits::NameMask;
 
 impl<'a> Rest<'a> {
     // Is the atom number e still there, and does it begin at s?
@@ -19,37 +19,33 @@ impl<'a> Rest<'a> {
         (0..self.own).filter(|e| self.begins(*e, s)).count()
     }
 
-    // The set with the ends of those that begin in it, but for the atom number e.
-    fn further(&self, e: usize, mut set: u64) -> u64 {
-        for j in 0..self.own {
-            if j == e || self.used.has(j) {
-                continue;
-            }
-            let atom = self.live.get(j);
-            if has(set, atom.start().0) {
-                set = with(set, atom.end().0);
+    // The names with the ends of those that begin at one of them, but for the atom number e.
+    fn further(&self, e: usize, mut names: NameMask) -> NameMask
+        ensures { names.0 ≤ result.0 }
+    {
+        for (j, atom) in self.live.as_slice()[..self.own].iter().enumerate() {
+            if j != e && !self.used.has(j) && names.has(atom.start().0) {
+                names = names.with(atom.end().0);
             }
         }
-        set
+        names
     }
 
     // Does a way lead to t from the end of the atom number e, over others?
     pub fn leads(&self, e: usize, t: u8) -> bool
-        requires within { e < self.now.own }
-        requires small { t < 64 }
+        requires { e < self.now.own }
     {
-        let mut set = with(0, self.live.get(e).end().0);
-        // Each round but the last finds one more of 64 names.
-        for _round in 0..64u8 {
-            if has(set, t) {
+        let mut names = NameMask::new().with(self.live.get(e).end().0);
+        'again: loop {
+            if names.has(t) {
                 return true;
             }
-            let more = self.further(e, set);
-            if more == set {
-                return false;
+            let more = self.further(e, names);
+            if more != names {
+                names = more;
+                continue 'again;
             }
-            set = more;
+            return false;
         }
-        false
     }
 }

@@ -5,7 +5,8 @@ use Rattle.claims.specs.Claims.{Atom}
 use Rattle.claims.specs.Memory.{Parts}
 use Rattle.memory.specs.Marks.{unmarked}
 use Rattle.linked.specs.Living.{atoms_of}
-use Rattle.linked.proofs.Reach.{live-length}
+use Rattle.linked.specs.Spare.{spare}
+use Rattle.linked.proofs.Reach.{live-length, slice_at}
 use Rattle.matching.specs.Using.{mark}
 use Rattle.matching.proofs.Lists.{DividedTo, divided_none, divided_free, divided_marked}
 use Rattle.matching.proofs.dividing.divide.Goals as goal
@@ -22,26 +23,33 @@ loop-j-preserved c =
     let w = map mark marks.marks in
     let j = c.loop-j.j in
     let before = c.loop-j.invariant in
-    let in_marks : j < length marks.marks = omega (arith, c.loop-j-test.true, l.few, marks.all) in
+    let xs = c.as_slice-atom-items in
+    let h : j < length xs.result.now = c.loop-j-test.true in
+    let within : j < l.count = omega (arith, h, xs.ensures.count) in
+    let atom = get_or xs.result.now j spare in
+    let is = slice_at l xs.result.now xs.ensures.value j spare h in
+    let in_marks : j < length marks.marks = omega (arith, within, l.few, marks.all) in
     let room : 64 ≤ length w = omega (arith, length-map marks.marks mark, marks.all) in
     let mark_is : get_or w j 0 ≡ mark c.has.result = get_or-map mark marks.marks j false 0 in_marks ∙ ap mark (sym c.has.ensures) in
     elim c.if-has.branch [
       | then-has b ↦
           subst₂ (λ f m. DividedTo l w f m (j + 1)) (sym b.free-is) (sym b.marked-is)
-          (divided_marked l w c.loop-j.free c.loop-j.marked b.with-marked.result j c.get-atom.result c.loop-j-test.true room c.get-atom.ensures.is
+          (divided_marked l w c.loop-j.free c.loop-j.marked b.with-marked.result j atom within room is
           before b.with-marked.ensures.more b.with-marked.ensures.count (λ e. absurd (omega (arith, e, mark_is ∙ ap mark b.if-has.true))))
       | else-has b ↦
           subst₂ (λ f m. DividedTo l w f m (j + 1)) (sym b.free-is) (sym b.marked-is)
-          (divided_free l w c.loop-j.free c.loop-j.marked b.with-free.result j c.get-atom.result c.loop-j-test.true room c.get-atom.ensures.is
+          (divided_free l w c.loop-j.free c.loop-j.marked b.with-free.result j atom within room is
           before b.with-free.ensures.more b.with-free.ensures.count (mark_is ∙ ap mark b.if-has.false))
     ]
 
 pub returns : goal.returns
 returns c =
     let l = c.args.list.now in
-    let all = take_all c.loop-j.j (atoms_of l) (omega (arith, live-length l)) in
+    let xs = c.as_slice-atom-items in
+    let end = c.loop-j-test.false in
+    let all = take_all c.loop-j.j (atoms_of l) (omega (arith, live-length l, xs.ensures.count, end)) in
     record {
       parts = subst (λ (u : List Atom). Parts (atoms_of c.loop-j.free) (atoms_of c.loop-j.marked) u) all c.loop-j.invariant.1;
       free = c.loop-j.invariant.2 ∙ ap (unmarked (map mark c.args.marks.now.marks)) all;
-      count = omega (arith, c.loop-j.invariant.0);
+      count = omega (arith, c.loop-j.invariant.0, xs.ensures.count, end, c.loop-j.auto.j-end);
     }

@@ -7,7 +7,8 @@ use Rattle.matching.proofs.Outside.{other_reached}
 use Rattle.matching.proofs.walking.apart_from.Goals as goal
 
 pub returns : goal.returns
-returns c r =
-    let found : (x : ℕ) × (x < 64) × (bit c.args.set x ≡ true) × (known_other c.args.known.now x c.args.u ≡ true) = search (rules, ranges) in
-    other_reached c.args.known.now (atoms_of c.args.live.now) c.args.e c.args.t c.args.set found.0 c.args.u
-    c.requires.reached found.1 c.requires.small found.2 found.3
+returns c t =
+    let r = c.args.reach.now in
+    let k = c.args.known.now in
+    let found : (x : ℕ) × (x < 64) × (bit r.names.0 x ≡ true) × (known_other k x c.args.u ≡ true) = search (rules, ranges) in
+    other_reached k (atoms_of r.live.now) r.without r.from r.names.0 found.0 c.args.u r.reached found.1 c.requires found.2 found.3
