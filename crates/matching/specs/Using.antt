@@ -1,5 +1,5 @@
 -- The atoms that are not used up, and what using some of them promises.
-use Rattle.std.specs.Prelude.{◌≡◌, ℕ, ◌<◌, Bool, false, cond, T, List, get_or, map, take, Some, None, Option, ◌≢◌, slice_index_or}
+use Rattle.std.specs.Prelude.{◌≡◌, ℕ, ◌<◌, Bool, false, cond, T, List, get_or, map, take, Some, None, Option, Ok, Err, Result, ◌≢◌, slice_index_or}
 use Rattle.claims.specs.Claims.{Atom, cell, row}
 use Rattle.claims.specs.Memory.{Names, at, Memory, sound}
 use Rattle.memory.specs.Marks.{unmarked}
@@ -10,6 +10,7 @@ use Rattle.linked.specs.Reaching.{Barred}
 use Rattle.linked.specs.declared.known.Known.{Known}
 use Rattle.matching.specs.Rules.{MadeOf, Made}
 use Rattle.matching.specs.declared.rests.Rest.{Rest}
+use Rattle.matching.specs.declared.rests.DeadEnd.{DeadEnd}
 use Rattle.matching.specs.declared.used.Used.{Used}
 use Rattle.matching.specs.declared.steps.Next.{Next}
 use Rattle.matching.specs.declared.steps.Next.TheVariants.{Over, Stuck}
@@ -62,9 +63,9 @@ ComesNext r s t (Over e) = Goes_on r s t e
 ComesNext r s t Stuck = Unit {0}
 
 -- q is left of r when the row from s to t is made of atoms that were there
-abbrev pub RowUsed : Rest → ℕ → ℕ → Option Rest → Type 0
-RowUsed r s t (Some q) = LeftOf r q × MadeOf r.known.now (all_of r) t s (left_of r) (left_of q)
-RowUsed r s t None = Unit {0}
+abbrev pub RowUsed : Rest → ℕ → ℕ → Result Rest DeadEnd → Type 0
+RowUsed r s t (Ok q) = LeftOf r q × MadeOf r.known.now (all_of r) t s (left_of r) (left_of q)
+RowUsed r s t (Err _) = Unit {0}
 
 -- the atom number e is the cell from x to y, and still there
 pub record CellThere (r : Rest) (x y e : ℕ) : Type 0 where

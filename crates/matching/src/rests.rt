@@ -14,3 +14,10 @@ pub struct Rest<'a> {
     pub used: Used,
     ghost all: { own ≤ live.now.count },
 }
+
+// Where the way of a row doesn't go on, with what is still there then.
+#[derive(Clone, Copy)]
+pub struct DeadEnd<'a> {
+    pub rest: Rest<'a>,
+    pub at: u8,
+}

@@ -9,7 +9,7 @@ ghost use Rattle.linked.specs.Living.{atoms_of};
 ghost use Rattle.linked.specs.Reaching.{Barred};
 ghost use Rattle.matching.specs.Using.{OtherThan, all_of, ComesNext, RowUsed, CellThere, AtomUsed};
 
-use crate::rests::Rest;
+use crate::rests::{DeadEnd, Rest};
 use crate::steps::Next;
 use claims::{Atom, Name};
 use linked::known::Known;
@@ -49,8 +49,8 @@ impl<'a> Rest<'a> {
             .map_or(Next::Stuck, Next::Over)
     }
 
-    // What is left when a row from s to t is made.
-    fn without_row(&self, s: u8, t: u8) -> Option<Rest<'a>>
+    // What is left when a row from s to t is made, or where its way doesn't go on.
+    pub fn without_row(&self, s: u8, t: u8) -> Result<Rest<'a>, DeadEnd<'a>>
         requires { t < 64 }
         ensures { RowUsed self.now s t result }
     {
@@ -58,12 +58,12 @@ impl<'a> Rest<'a> {
         let mut at = s;
         while at != t {
             let Next::Over(e) = rest.next(at, t) else {
-                return None;
+                return Err(DeadEnd { rest, at });
             };
             at = rest.live.get(e).end().0;
             rest = rest.without(e);
         }
-        Some(rest)
+        Ok(rest)
     }
 
     // The number of the cell from x to y, if it is still there.
@@ -80,7 +80,7 @@ impl<'a> Rest<'a> {
     {
         match atom {
             Atom::Cell(x, y) => Some(self.without(self.find_cell(x, y)?)),
-            Atom::Row(x, y) => self.without_row(x.0, y.0),
+            Atom::Row(x, y) => self.without_row(x.0, y.0).ok(),
         }
     }
 }
