@@ -126,3 +126,7 @@ below_64 l =
     All-from_get_or (AtomBelow 64) (atoms_of l) (row 0 0) λ i h.
     let within : i < l.count = omega (arith, live-length l) in
     subst (AtomBelow 64) (sym (live_at l i (row 0 0) within)) (atom_small (atom_of (get_or l.atoms i spare)) (l.starts i within) (l.ends i within))
+
+-- and so are those of its slice
+pub slice_below : (l : Live) (xs : List CodeAtom) → xs ≡ take l.count l.atoms → AllByRecursion (AtomBelow 64) (map atom_of xs)
+slice_below l xs e = subst (λ u. AllByRecursion (AtomBelow 64) (map atom_of u)) (sym e) (below_64 l)

@@ -38,6 +38,7 @@ pub fn divide(list: &Live, marks: &Used) -> (Live, Live)
 }
 
 // By the names that stand for their ends, and without rows that are known to be empty.
+#[tactic(auto, using(crate::proofs::Lists::slice_below))]
 pub fn renamed(list: &Live, known: &Known) -> Live
     ensures lives { Lives known.now (atoms_of list.now) (atoms_of result) }
     ensures no_more { result.count ≤ list.now.count }

@@ -8,6 +8,7 @@ use linked::known::Known;
 use linked::propagate::propagate;
 
 // What is known beyond that, if all of a part's atoms of the first claim have their cells; or nothing, if there are no such names.
+#[tactic(auto, using(crate::proofs::Lists::slice_below))]
 pub fn draw(part: &Part, known: Known) -> Option<Known>
     ensures propagated { Propagated (whole_of part.now) known result }
     ensures no_more { NoMore known result }
