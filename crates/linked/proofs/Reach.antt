@@ -7,8 +7,11 @@ use borrow.Author.Tests.{both_ways}
 use Rattle.claims.specs.Claims.{Atom, cell, row}
 use Rattle.claims.specs.Memory.{Names, at, Memory, here, sound, Dealt}
 use Rattle.claims.specs.Meaning.{atom_of}
+use Rattle.claims.specs.Words.{AtomBelow}
+use Rattle.std.specs.List.{AllByRecursion}
+use Rattle.std.proofs.ByRecursion.{All-from_get_or}
 use Rattle.claims.specs.declared.parts.Atom.{Atom as CodeAtom}
-use Rattle.memory.specs.Owners.{Owns, Passes, Empty, start}
+use Rattle.memory.specs.Owners.{Owns, Passes, Empty, start, end}
 use Rattle.memory.proofs.Dealt.{one_owner, owner, owns_place}
 use Rattle.memory.proofs.Parts.{sound_nowhere}
 use Rattle.linked.specs.Bits.{bit}
@@ -29,6 +32,18 @@ pub live_at : (l : Live) (j : ℕ) (d : Atom) → j < l.count → get_or (atoms_
 live_at l j d h =
     get_or-map atom_of (take l.count l.atoms) j spare d (omega (arith, length-take l.count l.atoms, l.full, l.few)) ∙
     ap atom_of (get_or-take l.count l.atoms j spare h)
+
+-- its names are below 64
+pub live_below : (l : Live) → AllByRecursion (AtomBelow 64) (atoms_of l)
+live_below l =
+    All-from_get_or (AtomBelow 64) (atoms_of l) (row 0 0)
+    (λ j h.
+    let g : j < l.count = omega (arith, h, live-length l) in
+    subst (AtomBelow 64) (sym (live_at l j (row 0 0) g)) (ends_below (atom_of (get_or l.atoms j spare)) (l.starts j g) (l.ends j g)))
+  where
+    ends_below : (a : Atom) → start a < 64 → end a < 64 → AtomBelow 64 a
+    ends_below (cell x y) h k = (h, k)
+    ends_below (row x y) h k = (h, k)
 
 pub slice_at :
     (l : Live) (xs : List CodeAtom) → xs ≡ take l.count l.atoms → (j : ℕ) (d : CodeAtom) → j < length xs →

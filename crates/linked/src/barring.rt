@@ -17,8 +17,8 @@ impl Reach<'_> {
     }
 
     // Does a cell other than the one that is left out begin at a name that is reached?
-    fn has_cell(&self, known: &Known) -> bool
-        ensures { result ≡ true → Barred known.now (atoms_of self.now.live.now) self.now.without self.now.from }
+    fn has_cell(&self) -> bool
+        ensures { result ≡ true → (k : Known) → Barred k (atoms_of self.now.live.now) self.now.without self.now.from }
     {
         let atoms = self.live.as_slice();
         atoms.iter().enumerate().any(|(j, atom)| j != self.without && self.is_cell_reached(atom))
@@ -37,6 +37,6 @@ impl Reach<'_> {
     pub fn is_barred(&self, known: &Known) -> bool
         ensures { result ≡ true → Barred known.now (atoms_of self.now.live.now) self.now.without self.now.from }
     {
-        self.names.has(0) || self.has_cell(known) || (0..64u8).any(|x| self.is_other_reached(known, x))
+        self.names.has(0) || self.has_cell() || (0..64u8).any(|x| self.is_other_reached(known, x))
     }
 }

@@ -1,16 +1,17 @@
 // Does nothing fork? Then a claim with these cells and rows whose same and other are known holds of a memory with one cell for
 // each that isn't known to be empty, and in which names are the same only where that is known.
-ghost use Rattle.std.specs.Prelude.{◌≡◌, ℕ, ◌<◌, true, false, map, ◌≢◌};
+ghost use Rattle.std.specs.Prelude.{◌≡◌, true, map};
 ghost use Rattle.std.specs.List.{AllByRecursion};
 ghost use Rattle.claims.specs.Meaning.{atom_of};
 ghost use Rattle.claims.specs.Words.{AtomBelow};
-ghost use Rattle.linked.specs.Forking.{begin_of, HasGeneric, SettledMemory};
+ghost use Rattle.linked.specs.Forking.{HasGeneric, SettledMemory};
 ghost use Rattle.linked.specs.Generics.{live, Forkless, HoldsGeneric};
 ghost use Rattle.linked.specs.Living.{atoms_of};
 
 use crate::atoms::Live;
 use crate::bits::NameSet;
 use crate::known::Known;
+use crate::view::View;
 use claims::Atom;
 
 // Is it not known to be empty?
@@ -46,4 +47,13 @@ pub fn is_forkless(atoms: &[Atom], known: &Known) -> bool
         seen = seen.with(start);
     }
     true
+}
+
+impl View<'_> {
+    // The same of live atoms.
+    pub fn nothing_forks(&self) -> bool
+        ensures { result ≡ true → HasGeneric self.now.known.now (atoms_of self.now.live.now) }
+    {
+        is_forkless(self.live.as_slice(), self.known)
+    }
 }

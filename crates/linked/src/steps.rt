@@ -35,7 +35,13 @@ impl View<'_> {
         requires { e < self.now.live.now.count }
     {
         let start = self.live.get(e).start();
-        start.0 == 0 || self.live.as_slice().iter().enumerate().any(|(j, atom)| j != e && atom.start() == start)
+        start.0 == 0
+            || self
+                .live
+                .as_slice()
+                .iter()
+                .enumerate()
+                .any(|(j, atom)| j != e && atom.start() == start)
     }
 
     // One look at each of the atoms, at what was known before: all that they find out is joined, since what is found from

@@ -17,7 +17,7 @@ when_true B true e m = m
 when_true B false e m = absurd (both_ways false refl e)
 
 pub returns : goal.returns
-returns c t =
+returns c t k =
     let r = c.args.self.now in
     let xs = c.as_slice-atoms in
     let Yes : ℕ × Atom → Type 0 = λ p. (p.0 ≢ r.without) × CellBegins r.names.0 (atom_of p.1) in
@@ -27,6 +27,6 @@ returns c t =
     (YieldsList-from_enumerate (YieldsList-from_slice xs.result.now (cc)) (cc)) (λ x q k. search (rules, tests)) (λ x q k. search (rules, tests))) in
     let within : j < length xs.result.now = omega (arith, l, length-enumerate_from 0 xs.result.now) in
     let is = subst Yes (get_or-enumerate_from 0 xs.result.now j (0, spare) within) (h (0, spare)) in
-    barred_begins c.args.known.now (atoms_of r.live.now) r.without r.from r.names.0 r.reached j (atom_of (get_or xs.result.now j spare))
+    barred_begins k (atoms_of r.live.now) r.without r.from r.names.0 r.reached j (atom_of (get_or xs.result.now j spare))
     (λ e. is.0 (omega (arith, e))) (omega (arith, within, live-length r.live.now, xs.ensures.count))
     (slice_at r.live.now xs.result.now xs.ensures.value j spare within) (xs.ensures.starts j within) is.1

@@ -8,8 +8,8 @@ pub returns-then-has_cell : goal.returns-then-has_cell
 returns-then-has_cell c t =
     let r = c.args.self.now in
     elim c.if-has.branch [
-      then-has w ↦
-        barred_nowhere c.args.known.now (atoms_of r.live.now) r.without r.from r.names.0 r.reached
-        (sym (c.has.ensures (omega arith)) ∙ w.if-has.true)
-    | else-has w ↦ w.has_cell.ensures (sym w.value-is ∙ c.if-has_cell.true)
+      | then-has w ↦
+          barred_nowhere c.args.known.now (atoms_of r.live.now) r.without r.from r.names.0 r.reached
+          (sym (c.has.ensures (omega arith)) ∙ w.if-has.true)
+      | else-has w ↦ w.has_cell.ensures (sym w.value-is ∙ c.if-has_cell.true) c.args.known.now
     ]

@@ -17,12 +17,12 @@ loop-j-preserved c =
     let x = subst (λ a. start (atom_of a) < 64) c.in-Row.is (xs.ensures.starts c.loop-j.j h) in
     let y = subst (λ a. end (atom_of a) < 64) c.in-Row.is (xs.ensures.ends c.loop-j.j h) in
     elim c.if-has.branch [
-      then-has w ↦
-        subst P (sym w.names-is) (
-          reach_more (atoms_of r.live.now) r.without r.from c.loop-j.names.0 w.with-names.result.0 c.loop-j.j c.in-Row.x.0 c.in-Row.y.0
-              c.loop-j.invariant.0 c.if-j-self.false (omega (arith, live-length r.live.now, xs.ensures.count))
-              (slice_at r.live.now xs.result.now xs.ensures.value c.loop-j.j _ h ∙ ap atom_of c.in-Row.is) (sym (c.has.ensures x) ∙ w.if-has.true) (w.with-names.ensures.bits y),
-          omega (arith, w.with-names.ensures.grows, c.loop-j.invariant.1),
-        )
-    | else-has w ↦ subst P (sym w.names-is) c.loop-j.invariant
+      | then-has w ↦
+          subst P (sym w.names-is) (
+            reach_more (atoms_of r.live.now) r.without r.from c.loop-j.names.0 w.with-names.result.0 c.loop-j.j c.in-Row.x.0 c.in-Row.y.0
+                c.loop-j.invariant.0 c.if-j-self.false (omega (arith, live-length r.live.now, xs.ensures.count))
+                (slice_at r.live.now xs.result.now xs.ensures.value c.loop-j.j _ h ∙ ap atom_of c.in-Row.is) (sym (c.has.ensures x) ∙ w.if-has.true) (w.with-names.ensures.bits y),
+            omega (arith, w.with-names.ensures.grows, c.loop-j.invariant.1),
+          )
+      | else-has w ↦ subst P (sym w.names-is) c.loop-j.invariant
     ]

@@ -25,17 +25,16 @@ returns-in-Row c =
     let x = c.in-Row.x.0 in
     let y = c.in-Row.y.0 in
     let from = is.from ∙ c.start.ensures ∙ ap (λ a. start (atom_of a)) c.in-Row.is in
-    let within : c.args.e < length (atoms_of v.live.now) = omega (arith, live-length v.live.now) in
-    (
+    let within : c.args.e < length (atoms_of v.live.now) = omega (arith, live-length v.live.now) in (
       c.in-Row.ensures.start,
       c.in-Row.ensures.end,
       elim c.if-barred-2.branch [
-        then-barred-2 w ↦
-          empty_row v.known.now (atoms_of v.live.now) c.args.e x y within (c.in-Row.ensures.is (row 0 0))
-          (barred_same v.known.now r.live.now v.live.now r.without c.args.e r.from x is.live is.without from (c.is_barred-barred.ensures w.if-barred-2.true))
-      | else-barred-2 w ↦
-          round_row v.known.now (atoms_of v.live.now) c.args.e x y within r.names.0 (c.in-Row.ensures.is (row 0 0))
-          (reached_same r.names.0 r.live.now v.live.now r.without c.args.e r.from x is.live is.without from r.reached)
-          (sym (w.has.ensures c.in-Row.ensures.end) ∙ sym w.value-is ∙ c.if-has.true)
+        | then-barred-2 w ↦
+            empty_row v.known.now (atoms_of v.live.now) c.args.e x y within (c.in-Row.ensures.is (row 0 0))
+            (barred_same v.known.now r.live.now v.live.now r.without c.args.e r.from x is.live is.without from (c.is_barred-barred.ensures w.if-barred-2.true))
+        | else-barred-2 w ↦
+            round_row v.known.now (atoms_of v.live.now) c.args.e x y within r.names.0 (c.in-Row.ensures.is (row 0 0))
+            (reached_same r.names.0 r.live.now v.live.now r.without c.args.e r.from x is.live is.without from r.reached)
+            (sym (w.has.ensures c.in-Row.ensures.end) ∙ sym w.value-is ∙ c.if-has.true)
       ],
     )

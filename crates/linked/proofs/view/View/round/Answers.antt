@@ -18,14 +18,14 @@ loop-e-preserved c =
     let v = c.args.self.now in
     let P : Known → Type 0 = λ u. Learns (atoms_of v.live.now) v.known.now u × (open_pairs u ≤ open_pairs v.known.now) in
     elim c.match-branch-2.branch [
-      in-Some+in_ok-more w ↦
-        let pair : c.in_ok-x.field-0 ≡ Some (w.in-Some.x, w.in-Some.y) = cc in
-        let is = ok_of c.look.result (Some (w.in-Some.x, w.in-Some.y)) (sym c.ok.ensures.value ∙ c.in_ok-x.was ∙ ap Some pair) in
-        let fact = subst (FoundOut v.known.now (atoms_of v.live.now)) is c.look.ensures in
-        subst P (sym w.more-is) (
-          learns_same (atoms_of v.live.now) v.known.now c.loop-e.more w.in-Some.x w.in-Some.y
-              c.loop-e.invariant.0 fact.2 w.in_ok-more.more w.in_ok-more.ensures.joined,
-          omega (arith, c.loop-e.invariant.1, w.in_ok-more.ensures.no_more),
-        )
-    | in_default w ↦ subst P (sym w.more-is) c.loop-e.invariant
+      | in-Some+in_ok-more w ↦
+          let pair : c.in_ok-x.field-0 ≡ Some (w.in-Some.x, w.in-Some.y) = cc in
+          let is = ok_of c.look.result (Some (w.in-Some.x, w.in-Some.y)) (sym c.ok.ensures.value ∙ c.in_ok-x.was ∙ ap Some pair) in
+          let fact = subst (FoundOut v.known.now (atoms_of v.live.now)) is c.look.ensures in
+          subst P (sym w.more-is) (
+            learns_same (atoms_of v.live.now) v.known.now c.loop-e.more w.in-Some.x w.in-Some.y
+                c.loop-e.invariant.0 fact.2 w.in_ok-more.more w.in_ok-more.ensures.joined,
+            omega (arith, c.loop-e.invariant.1, w.in_ok-more.ensures.no_more),
+          )
+      | in_default w ↦ subst P (sym w.more-is) c.loop-e.invariant
     ]
