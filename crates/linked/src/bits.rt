@@ -35,11 +35,25 @@ impl NameMask {
     }
 }
 
-// As two words of 32 bits.
+// As two words of 32 bits, for what is known other: those are set and tested as they are, and not by way of a mask.
 #[derive(Clone, Copy)]
 pub struct NameSet {
     low: u32,
     high: u32,
+}
+
+fn bit_of(w: u32, k: u8) -> bool
+    requires { k < 32 }
+    ensures { result ≡ bit w k }
+{
+    (w >> k) & 1 == 1
+}
+
+fn with_bit(w: u32, k: u8) -> u32
+    requires { k < 32 }
+    ensures { (j : ℕ) → bit result j ≡ (bit w j || j == k) }
+{
+    w | (1 << k)
 }
 
 impl NameSet {
@@ -60,14 +74,28 @@ impl NameSet {
         requires { x < 64 }
         ensures { result ≡ is-in self.now x }
     {
-        self.mask().has(x)
+        if x < 32 {
+            bit_of(self.low, x)
+        } else {
+            bit_of(self.high, x - 32)
+        }
     }
 
     pub fn with(self, x: u8) -> NameSet
         requires { x < 64 }
         ensures { (y : ℕ) → is-in result y ≡ (is-in self y || y == x) }
     {
-        NameSet::from(self.mask().with(x))
+        if x < 32 {
+            NameSet {
+                low: with_bit(self.low, x),
+                high: self.high,
+            }
+        } else {
+            NameSet {
+                low: self.low,
+                high: with_bit(self.high, x - 32),
+            }
+        }
     }
 
     pub fn union(self, other: NameSet) -> NameSet
@@ -76,17 +104,6 @@ impl NameSet {
         NameSet {
             low: self.low | other.low,
             high: self.high | other.high,
-        }
-    }
-}
-
-impl From<NameMask> for NameSet {
-    fn from(mask: NameMask) -> NameSet
-        ensures { (x : ℕ) → is-in result x ≡ bit mask.0 x }
-    {
-        NameSet {
-            low: (mask.0 & 0xffff_ffff) as u32,
-            high: (mask.0 >> 32) as u32,
         }
     }
 }

@@ -7,8 +7,8 @@ use claims::Place;
 
 // Which cells are taken is told by marks, a word for each cell: 0 if the cell is still there.
 #[derive(Drop)]
-pub(crate) struct Dealing<'a> {
-    pub(crate) memory: SoundMemory<'a>,
+pub struct Dealing<'a> {
+    pub memory: SoundMemory<'a>,
     marks: &'a mut [u32],
     ghost room: { length marks.now ≡ length memory.words.now / 2 },
 }
@@ -19,7 +19,7 @@ impl<'a> Dealing<'a> {
     ghost use Rattle.memory.specs.Walks.{Stepped};
 
     // With no cell taken yet. The marks are lent, and hold any words.
-    pub(crate) fn begin(memory: SoundMemory<'a>, marks: &'a mut [u32]) -> Dealing<'a>
+    pub fn begin(memory: SoundMemory<'a>, marks: &'a mut [u32]) -> Dealing<'a>
         requires { length marks.old ≡ length memory.words.now / 2 }
         ensures memory { result.memory ≡ memory.entry }
         ensures all { rest result ≡ memory_of memory.entry.words.now }
@@ -42,7 +42,7 @@ impl<'a> Dealing<'a> {
     }
 
     // The number of the first cell that is not taken.
-    pub(crate) fn left_over(&self) -> Option<usize>
+    pub fn left_over(&self) -> Option<usize>
         ensures { Unmarked self.now.marks.now result }
     {
         self.marks.iter().position(|mark| *mark == 0)

@@ -6,7 +6,7 @@
 
 pub mod cells;
 pub mod checks;
-mod dealings;
+pub mod dealings;
 pub mod deals;
 #[cfg(test)]
 mod tests;

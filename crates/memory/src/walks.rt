@@ -45,7 +45,7 @@ impl<'a> Dealing<'a> {
     }
 
     // Takes the cells of an atom. If they are not there, answers the place where the search for them got stuck.
-    pub(crate) fn take(&mut self, atom: Atom, names: &[u32]) -> Result<(), Place>
+    pub fn take(&mut self, atom: Atom, names: &[u32]) -> Result<(), Place>
         ensures memory { self.new.memory ≡ self.old.memory }
         ensures taken { AtomTaken names.now (atom_of atom) (rest self.old) (rest self.new) result }
     {
