@@ -47,8 +47,8 @@ returns-then-start-eq0 c =
     c.if-not-is_live.ensures c.start.ensures c.find-start.ensures.stands in
     record {
       exact = elim c.then-start-eq0.branch [
-        then-start-eq0-via-then-start-eq0 w ↦ fork_nowhere k cs e c.loop-atom.seen c.loop-atom.invariant c.find-start.result out w.if-start-eq0.true
-      | then-start-eq0-via-else-start-eq0+then-has w ↦ fork_two k cs e c.loop-atom.seen c.loop-atom.invariant c.find-start.result out w.if-has.ensures
+        | then-start-eq0-via-then-start-eq0 w ↦ fork_nowhere k cs e c.loop-atom.seen c.loop-atom.invariant c.find-start.result out w.if-start-eq0.true
+        | then-start-eq0-via-else-start-eq0+then-has w ↦ fork_two k cs e c.loop-atom.seen c.loop-atom.invariant c.find-start.result out w.if-has.ensures
       ];
       settled = λ e. absurd (both_ways false refl e);
       generic = λ e. absurd (both_ways false refl e);
