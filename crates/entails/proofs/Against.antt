@@ -1,16 +1,14 @@
 -- What is told is against it.
 --
 -- at-take, names_alike: as many names as there are mean the same as all that are written.
--- tried_one: a memory that was written down and judged.
 -- told_length: how many cells are told; told_against: what is against it is so with just as many names as there are.
-use Rattle.std.proofs.Common.{◌≡◌, ℕ, zero, suc, ◌*◌, ◌≤◌, Bool, true, false, length, take, sym, refl, ap, subst₂, arith}
+use Rattle.std.proofs.Common.{◌≡◌, ℕ, zero, suc, ◌*◌, ◌≤◌, length, take, sym, refl, arith}
 use Rattle.std.proofs.lemmas.List.{get_or-take, length-take-le}
-use Rattle.claims.specs.Words.{Limits}
-use Rattle.claims.specs.Memory.{Names, Memory}
+use Rattle.claims.specs.Memory.{Names}
 use Rattle.memory.proofs.Alike.{Alike, alike_sym, says_alike}
 use Rattle.memory.proofs.Marking.{length_memory}
 use Rattle.models.specs.Follows.{enough}
-use Rattle.entails.specs.Telling.{told_memory, first_of, question_of, NotAgainst, IsAgainst, JudgedAgainst, ToldAgainst, TriedOne}
+use Rattle.entails.specs.Telling.{told_memory, first_of, IsAgainst, ToldAgainst}
 use Rattle.entails.specs.declared.told.Told.{Told}
 use Rattle.entails.specs.declared.goals.Goal.{Goal}
 
@@ -24,25 +22,17 @@ told_length t =
     omega (arith, length_memory (take (2 * t.count) t.cells))
 
 pub told_against :
-    (g : Goal) (t : Told) → Limits (question_of g) → IsAgainst g t.names (told_memory t) →
-    length (told_memory t) ≤ enough (length (first_of g).atoms) → ToldAgainst g t
-told_against g t limits against small =
+    (g : Goal) (t : Told) → IsAgainst g t.names (told_memory t) → length (told_memory t) ≤ enough (length (first_of g).atoms) → ToldAgainst g t
+told_against g t against small =
     let alike = names_alike g.names t.names in
     let back = alike_sym g.names t.names (take g.names t.names) alike in
     record {
       against =
           record {
-            names = length-take-le g.names t.names (omega (arith, t.all, limits.few_names));
+            names = length-take-le g.names t.names (omega (arith, t.all, g.limits.few_names));
             sound_m = against.sound_m;
-            says = says_alike g.names t.names (take g.names t.names) alike limits.first_fits against.says;
-            not = λ s. against.not (says_alike g.names (take g.names t.names) t.names back limits.second_fits s);
+            says = says_alike g.names t.names (take g.names t.names) alike g.limits.first_fits against.says;
+            not = λ s. against.not (says_alike g.names (take g.names t.names) t.names back g.limits.second_fits s);
           };
       small = omega (arith, told_length t);
     }
-
--- a memory that was written down and judged
-pub tried_one :
-    (g : Goal) (t : Told) (n : Names) (m : Memory) (r : Bool) → Limits (question_of g) → t.names ≡ n → told_memory t ≡ m →
-    length m ≤ enough (length (first_of g).atoms) → JudgedAgainst g t.names (told_memory t) r → TriedOne g t n m r
-tried_one g t n m true limits en em small h = told_against g t limits h (omega (arith, ap length em))
-tried_one g t n m false limits en em small h = subst₂ (NotAgainst g) en em h

@@ -1,5 +1,5 @@
 -- What it says that memories were tried and none is against it.
-use Rattle.std.specs.Prelude.{ℕ, ◌<◌, ◌≤◌, Bool, true, false}
+use Rattle.std.specs.Prelude.{ℕ, ◌<◌, ◌≤◌, Ok, Err, Result}
 use Rattle.claims.specs.Memory.{Names}
 use Rattle.models.specs.Generic.{stretched}
 use Rattle.models.specs.Follows.{FollowsLike}
@@ -19,7 +19,7 @@ pub record FollowsSo (g : Goal) (k : Known) : Type 0 where
   pub stand : StandsAt g.names k names
   pub follows : FollowsLike g.names names (first_of g) (second_of g)
 
--- what is told is against it; or it follows for names of the pattern of what is known
-abbrev pub Exactly : Goal → Known → Told → Bool → Type 0
-Exactly g k t true = ToldAgainst g t
-Exactly g k t false = FollowsSo g k
+-- it follows for names of the pattern of what is known; or what is told is against it
+abbrev pub Exactly : Goal → Known → Result Unit Told → Type 0
+Exactly g k (Ok u) = FollowsSo g k
+Exactly g k (Err t) = ToldAgainst g t
