@@ -23,9 +23,9 @@ pub fn write(names: &[u32; 64], atoms: &[Atom], stretch: Option<Stretch>) -> Tol
 {
     let mut told = Told::new(names);
     for (i, atom) in atoms.iter().enumerate() {
-        match stretch {
-            Some(Stretch { row, through }) if row == i => told.link_through(*atom, through),
-            _ => told.link(*atom),
+        match stretch.filter(|stretch| stretch.row == i) {
+            Some(stretch) => told.link_through(*atom, stretch.through),
+            None => told.link(*atom),
         }
     }
     told

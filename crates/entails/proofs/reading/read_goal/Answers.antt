@@ -1,10 +1,13 @@
-use Rattle.std.proofs.Common.{◌≡◌, ℕ, ◌+◌, ◌*◌, ◌≤◌, List, [], ◌∷◌, ◌++◌, length, sym, ap, ◌∙◌, subst, arith}
+use Rattle.std.proofs.Common.{◌≡◌, ℕ, ◌+◌, ◌*◌, ◌≤◌, List, [], ◌∷◌, ◌++◌, length, Some, None, Option, sym, ap, ◌∙◌, subst, rules, arith}
 use Rattle.std.proofs.lemmas.List.{append-nil}
+use Rattle.std.proofs.lemmas.Option.{none-some}
 use Rattle.claims.specs.Claims.{Question}
 use Rattle.claims.specs.Words.{Fits, Reads, words, claim_words}
 use Rattle.claims.specs.Decoding.{Decodes, decoded_claim}
 use Rattle.claims.specs.declared.decoded.Decoded.{Decoded}
 use Rattle.claims.proofs.ClaimWords.{claim_one, length_claim, from, rest_from, claim_whole}
+use Rattle.entails.specs.Deciding.{GoalRead}
+use Rattle.entails.specs.declared.goals.Goal.{Goal}
 use Rattle.entails.proofs.reading.read_goal.Goals as goal
 
 -- the words behind the first claim, of k words
@@ -26,17 +29,22 @@ module _ (s t : List ℕ) (n k : ℕ) (d : Decoded) (is : s ≡ n ∷ t) (f : De
   second_stands : from k t ≡ claim_words q.second
   second_stands = rest_is t n k d f len ∙ sym (claim_one q.first (decoded_claim d) (claim_words q.second) f.rest (claims_are ∙ f.words)).1
 
+none_read : (s : List ℕ) (o : Option Goal) → o ≡ None → ((q : Question) → Reads s q → ⊥) → GoalRead s o
+none_read s None e none = none
+none_read s (Some g) e none = absurd (none-some g (sym e))
+
 -- the second claim is none
 pub returns-in_err-second : goal.returns-in_err-second
-returns-in_err-second c q r =
+returns-in_err-second c =
+    none_read c.args.words.now c.from_residual-in_err-second.result (search rules) λ q r.
     let s = c.args.words.now in
     let t = c.in_ok-names.claims.now in
     let n = c.in_ok-names.names.now in
     let d = c.in_ok-first.first in
     let f = c.in_ok-first.ensures.decodes in
-    let e = second_stands s t n c.len.result d c.in_ok-names.ensures.cases f c.len.ensures q r ∙ sym (append-nil (claim_words q.second)) in
+    let e = second_stands s t n c.len.result d c.in_ok-names.ensures.cases.0 f c.len.ensures q r ∙ sym (append-nil (claim_words q.second)) in
     c.in_err-second.ensures.decodes q.second [] e
-    (subst (λ m. Fits m q.second) (sym (names_same s t n c.len.result d c.in_ok-names.ensures.cases f c.len.ensures q r)) r.limits.second_fits)
+    (subst (λ m. Fits m q.second) (sym (names_same s t n c.len.result d c.in_ok-names.ensures.cases.0 f c.len.ensures q r)) r.limits.second_fits)
 
 -- words are left over behind the second claim
 pub returns-then-rest-len : goal.returns-then-rest-len
@@ -47,7 +55,7 @@ returns-then-rest-len c q r =
     let d = c.in_ok-first.first in
     let d2 = c.in_ok-second.second in
     let g = c.in_ok-second.ensures.decodes in
-    let e = second_stands s t n c.len.result d c.in_ok-names.ensures.cases c.in_ok-first.ensures.decodes c.len.ensures q r in
+    let e = second_stands s t n c.len.result d c.in_ok-names.ensures.cases.0 c.in_ok-first.ensures.decodes c.len.ensures q r in
     let o = claim_one q.second (decoded_claim d2) [] g.rest (append-nil (claim_words q.second) ∙ sym e ∙ g.words) in
     c.if-rest-len.true (ap length (e ∙ ap claim_words o.0) ∙ long (from c.len.result t) n c.len-2.result d2 g c.len-2.ensures)
 
@@ -63,6 +71,6 @@ returns c =
     let w = claim_whole (decoded_claim d2) rest g.rest g.words (long rest n c.len-2.result d2 g c.len-2.ensures ∙ sym c.if-rest-len.false) in
     let e = f.words ∙ ap (λ u. claim_words (decoded_claim d) ++ u) (sym (rest_is t n c.len.result d f c.len.ensures) ∙ w) in
     record {
-      is = ap (λ u. n ∷ u) (sym e) ∙ sym c.in_ok-names.ensures.cases;
+      is = ap (λ u. n ∷ u) (sym e) ∙ sym c.in_ok-names.ensures.cases.0;
       limits = record { some_names = omega arith; few_names = omega arith; first_fits = f.fits; second_fits = g.fits };
     }

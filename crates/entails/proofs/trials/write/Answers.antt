@@ -1,4 +1,4 @@
-use Rattle.std.proofs.Common.{◌≡◌, ℕ, ◌+◌, ◌*◌, ◌<◌, ◌≤◌, List, [], ◌∷◌, ◌++◌, map, length, get_or, take, Some, Option, sym, ap, ◌∙◌, subst, arith}
+use Rattle.std.proofs.Common.{◌≡◌, ℕ, ◌+◌, ◌*◌, ◌<◌, ◌≤◌, List, [], ◌∷◌, ◌++◌, map, length, get_or, take, Some, Option, sym, ap, ◌∙◌, subst, rules, tests, arith}
 use lib.ListN.{length-map}
 use Rattle.std.proofs.lemmas.List.{map_more, take_all, length-take-le}
 use Rattle.claims.specs.Memory.{Names}
@@ -10,7 +10,7 @@ use Rattle.entails.specs.declared.stretches.Stretch.{Stretch}
 use Rattle.entails.specs.declared.told.Told.{Told}
 use Rattle.entails.proofs.Stretching.{stretched_through, tried_on}
 use Rattle.entails.proofs.trials.write.Goals as goal
-use Rattle.entails.proofs.trials.write.Goals.{in-Some, in_default, in_default-via-in-Some+else-row-i, in_default-via-in_default}
+use Rattle.entails.proofs.trials.write.Goals.{in-Some, in-None}
 
 -- the first i atoms are written
 abbrev Written : Names → List Atom → Option Stretch → ℕ → Told → Type 0
@@ -48,19 +48,18 @@ pub loop-i-preserved : goal.loop-i-preserved
 loop-i-preserved c =
     let g = c.args.names.now in
     let xs = c.args.atoms.now in
-    let i = c.loop-i.i in
+    let i = c.loop-i.i-counter in
     let old = c.loop-i.told in
     let lt = c.loop-i-test.true in
     let P : Told → Type 0 = Written g xs c.args.stretch (i + 1) in
-    elim c.match-stretch.branch [
-      | in-Some w ↦ subst P (sym w.told-is) (through g xs i _ c.args.stretch old w.link_through.new.self lt c.loop-i.invariant w.link_through.ensures.names w.link_through.ensures.count (record { row = w.in-Some.row; through = w.in-Some.through }) w.in-Some.is w.if-row-i.true w.link_through.ensures.cells)
-      | in_default w ↦ subst P (sym w.told-is) (on g xs i _ c.args.stretch old w.link.new.self lt c.loop-i.invariant w.link.ensures.names w.link.ensures.count
-          (λ t is e. elim w.in_default.branch [
-            | in_default-via-in-Some+else-row-i v ↦ v.if-row-i.false (let same : Some t ≡ Some (record { row = v.in-Some.row; through = v.in-Some.through }) = sym is ∙ v.in-Some.is in cc)
-            | in_default-via-in_default v ↦ v.in_default.not-Some _ is
-          ]) w.link.ensures.cells)
+    elim c.match-filter.branch [
+      | in-Some w ↦
+          let is : c.args.stretch ≡ Some w.in-Some.stretch = search (rules, tests) in
+          let at : w.in-Some.stretch.row ≡ i = search (rules, tests) in
+          subst P (sym w.told-is) (through g xs i _ c.args.stretch old w.link_through.new.self lt c.loop-i.invariant w.link_through.ensures.names w.link_through.ensures.count w.in-Some.stretch is at w.link_through.ensures.cells)
+      | in-None w ↦ subst P (sym w.told-is) (on g xs i _ c.args.stretch old w.link.new.self lt c.loop-i.invariant w.link.ensures.names w.link.ensures.count (λ t is e. search (rules, tests)) w.link.ensures.cells)
     ]
 
 pub returns-clause-cells : goal.returns-clause-cells
 returns-clause-cells c =
-    c.loop-i.invariant.2 ∙ ap (λ u. tried c.args.names.now (map atom_of u) c.args.stretch) (take_all c.loop-i.i c.args.atoms.now (omega arith))
+    c.loop-i.invariant.2 ∙ ap (λ u. tried c.args.names.now (map atom_of u) c.args.stretch) (take_all c.loop-i.i-counter c.args.atoms.now (omega arith))
