@@ -1,6 +1,6 @@
 -- That a question is within the limits is a proposition, so that a struct may hold it as a ghost field.
 use Rattle.std.specs.Prelude.{ℕ, ◌≤◌, length}
-use Rattle.std.specs.List.{AllByRecursion, AllByRecursion-prop}
+use Rattle.std.specs.List.{AllByRecursion-prop}
 use Rattle.claims.specs.Claims.{Pure, same, other, Atom, cell, row, Claim, Question}
 use Rattle.claims.specs.Words.{PureBelow, AtomBelow, Fits, Limits}
 use native.Mathlib.Bridge.{le_prop}

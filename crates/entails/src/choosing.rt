@@ -44,7 +44,12 @@ fn any_open(known: &Known, names: u8) -> Option<(u8, u8)>
 fn lately(known: &Known, recent: &Recent) -> Option<(u8, u8)>
     ensures { IfSome result (λ pair. IsOpen known.now pair.0 pair.1) }
 {
-    recent.pairs.iter().copied().flatten().find(|pair| is_open_pair(known, *pair))
+    recent
+        .pairs
+        .iter()
+        .copied()
+        .flatten()
+        .find(|pair| is_open_pair(known, *pair))
 }
 
 // Two names of which it isn't known: as lately, or as wished for, or any; none, if all is known.

@@ -149,7 +149,9 @@ fn atoms_wish(part: &Part, whole: &Live, known: &Known, names: u8) -> Wish
     for atom in &part.wanted.atoms[0..part.wanted.count] {
         let wish = atom_wish(whole, part.own.count, known, names, *atom);
         best = Wish {
-            pair: best.pair.or(wish.pair.filter(|pair| is_open_pair(known, *pair))),
+            pair: best
+                .pair
+                .or(wish.pair.filter(|pair| is_open_pair(known, *pair))),
             detour: best.detour.or(wish.detour),
         };
     }

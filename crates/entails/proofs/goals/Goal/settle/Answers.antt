@@ -1,9 +1,8 @@
 use Rattle.std.proofs.Common.{◌≡◌, Some, None, Ok, Err, Result, map, sym, subst, rules, tests}
 use Rattle.std.specs.List.{AllByRecursion}
 use Rattle.std.specs.Result.{MatchResult, IsErrAnd}
-use Rattle.claims.specs.Memory.{Names, PureHolds}
+use Rattle.claims.specs.Memory.{PureHolds}
 use Rattle.claims.specs.Meaning.{pure_of}
-use Rattle.linked.specs.Knowing.{Agrees}
 use Rattle.linked.specs.declared.known.Known.{Known}
 use Rattle.matching.specs.Parting.{whole_of}
 use Rattle.matching.specs.Rules.{no_names, drawn}
@@ -56,5 +55,5 @@ returns c =
     let p = c.whole-part.result in
     made_small g c.in-Some-draw.drawn p c.search.result c.map_err.result c.search.ensures c.map_err.ensures.cases
     (λ closed. follows (goal.at.returns c).After-whole-part
-      (drawn (drawn_from k (first_of g).atoms (whole_of p) (Some c.in-Some-draw.drawn) c.whole-part.ensures.part_of c.in-Some-draw.ensures.propagated) closed))
+    (drawn (drawn_from k (first_of g).atoms (whole_of p) (Some c.in-Some-draw.drawn) c.whole-part.ensures.part_of c.in-Some-draw.ensures.propagated) closed))
     (λ e t h. search (rules, tests))
