@@ -65,7 +65,7 @@ module _ (m : ℕ) (k : Known) (few : m ≤ 64) where
       let p = subst P (get_or_default cs i d (row 0 0) h) (full_live a b full, sym (at-first_numbers m k (start a) (start_below a b) few)) in
       record { one = h; full = p.0; from = p.1 }
 
-  fork_free : (cs : List Atom) → AllByRecursion (AtomBelow m) cs → (Fork k cs → ⊥) → ForkFree (first_numbers m k) cs
+  pub fork_free : (cs : List Atom) → AllByRecursion (AtomBelow m) cs → (Fork k cs → ⊥) → ForkFree (first_numbers m k) cs
   fork_free cs below none =
       record {
         somewhere = λ i d h full e. none (from_nowhere i (subst (λ x. GoesOut k cs x i) e (goes_out cs below i d h full)));

@@ -1,7 +1,9 @@
--- Sets of names: what is in the empty set, in one with one more name, in a union.
-use Rattle.std.proofs.Common.{◌≡◌, ℕ, ◌-◌, ◌<◌, ◌≤◌, Bool, true, false, cond, ◌||◌, eqb, sym, refl, ap, ◌∙◌, ap₂, ⊎_elim, arith, le-ltb, lt-ltb, eq-eqb, ne_eqb}
+-- Sets of names: what is in the empty set, in a union, and in the number with the same bits.
+use Rattle.std.proofs.Common.{◌≡◌, ℕ, ◌+◌, ◌-◌, ◌*◌, ◌/◌, ◌%◌, ◌^◌, ◌<◌, ◌≤◌, Bool, true, false, cond, ◌||◌, eqb, sym, refl, ap, ◌∙◌, ap₂, ⊎_elim, arith, le-ltb, lt-ltb}
 use lib.Bits.{bit_or}
-use Rattle.std.proofs.lemmas.Bool.{cases_lt, cases_eq}
+use Rattle.std.proofs.lemmas.Bool.{cases_lt}
+use Rattle.std.proofs.lemmas.Nat.Bits.{bit_at-zero, bit_at_above, bit_at_cat_low, bit_at_cat_high}
+use Rattle.std.specs.Int.{bit_at}
 use Rattle.linked.specs.Bits.{bit, has}
 use Rattle.linked.specs.declared.bits.NameSet.{NameSet}
 use Rattle.linked.proofs.BitLaws.{bit-bit_or, bit-none}
@@ -30,27 +32,31 @@ has_union s t =
     (λ x a. bit-bit_or s.low t.low x ∙ sym (ap₂ (λ u v. u || v) (has_low s x a) (has_low t x a)))
     (λ x a. bit-bit_or s.high t.high (x - 32) ∙ sym (ap₂ (λ u v. u || v) (has_high s x a) (has_high t x a)))
 
-or_false : (b : Bool) → (b || false) ≡ b
-or_false true = refl
-or_false false = refl
-
-pub has_with_low :
-    (s : NameSet) (w k : ℕ) → k < 32 → ((j : ℕ) → bit w j ≡ (bit s.low j || eqb j k)) → (x : ℕ) →
-    has (record { low = w; high = s.high }) x ≡ (has s x || eqb x k)
-has_with_low s w k h e =
-    by_words (λ x b. b ≡ (has s x || eqb x k)) (record { low = w; high = s.high })
-    (λ x a. e x ∙ sym (ap (λ u. u || eqb x k) (has_low s x a)))
-    (λ x a. sym (ap₂ (λ u v. u || v) (has_high s x a) (ne_eqb x k (λ i. omega arith)) ∙ or_false (bit s.high (x - 32))))
-
-pub has_with_high :
-    (s : NameSet) (w k : ℕ) → 32 ≤ k → ((j : ℕ) → bit w j ≡ (bit s.high j || eqb j (k - 32))) → (x : ℕ) →
-    has (record { low = s.low; high = w }) x ≡ (has s x || eqb x k)
-has_with_high s w k h e =
-    by_words (λ x b. b ≡ (has s x || eqb x k)) (record { low = s.low; high = w })
-    (λ x a. sym (ap₂ (λ u v. u || v) (has_low s x a) (ne_eqb x k (λ i. omega arith)) ∙ or_false (bit s.low x)))
-    (λ x a. e (x - 32) ∙ sym (ap₂ (λ u v. u || v) (has_high s x a) (sym (shifted x a))))
+-- a set and the number with the same bits
+pub has_mask :
+    (s : NameSet) (lo hi : ℕ) → lo ≡ s.low → hi ≡ s.high → s.low < 2 ^ 32 → s.high < 2 ^ 32 → (x : ℕ) →
+    bit (bit_or lo (hi * 2 ^ 32 % 2 ^ 64)) x ≡ has s x
+has_mask s lo hi el eh small_low small_high =
+    by_words (λ x b. bit (bit_or lo (hi * 2 ^ 32 % 2 ^ 64)) x ≡ b) s
+    (λ x a. word x ∙ ap₂ (λ u v. eqb u 1 || eqb v 1) (ap (λ n. bit_at n x) el) (ap (λ n. bit_at n x) high ∙ bit_at_cat_low s.high 32 0 x a ∙ bit_at-zero x) ∙ or_false (bit s.low x))
+    (λ x a. word x ∙ ap₂ (λ u v. eqb u 1 || eqb v 1) (ap (λ n. bit_at n x) el ∙ bit_at_above s.low 32 x small_low a) (ap (λ n. bit_at n x) high ∙ bit_at_cat_high s.high 32 0 x (omega arith) a))
   where
-    shifted : (x : ℕ) → 32 ≤ x → eqb (x - 32) (k - 32) ≡ eqb x k
-    shifted x a =
-        ⊎_elim (λ i. eq-eqb (x - 32) (k - 32) (ap (λ n. n - 32) i) ∙ sym (eq-eqb x k i))
-        (λ n. ne_eqb (x - 32) (k - 32) (λ i. n (omega arith)) ∙ sym (ne_eqb x k n)) (cases_eq x k)
+    high : hi * 2 ^ 32 % 2 ^ 64 ≡ s.high * 2 ^ 32 + 0
+    high = omega arith
+
+    word : (x : ℕ) → bit (bit_or lo (hi * 2 ^ 32 % 2 ^ 64)) x ≡ (bit lo x || bit (hi * 2 ^ 32 % 2 ^ 64) x)
+    word x = bit-bit_or lo (hi * 2 ^ 32 % 2 ^ 64) x
+
+    or_false : (b : Bool) → (b || false) ≡ b
+    or_false true = refl
+    or_false false = refl
+
+pub has_of_mask :
+    (s : NameSet) (m : ℕ) → s.low ≡ m % 2 ^ 32 → s.high ≡ m / 2 ^ 32 → (x : ℕ) → has s x ≡ bit m x
+has_of_mask s m el eh =
+    by_words (λ x b. b ≡ bit m x) s
+    (λ x a. ap (λ n. bit n x) el ∙ sym (ap (λ n. eqb n 1) (ap (λ n. bit_at n x) whole ∙ bit_at_cat_low (m / 2 ^ 32) 32 (m % 2 ^ 32) x a)))
+    (λ x a. ap (λ n. bit n (x - 32)) eh ∙ sym (ap (λ n. eqb n 1) (ap (λ n. bit_at n x) whole ∙ bit_at_cat_high (m / 2 ^ 32) 32 (m % 2 ^ 32) x (omega arith) a)))
+  where
+    whole : m ≡ m / 2 ^ 32 * 2 ^ 32 + m % 2 ^ 32
+    whole = omega arith

@@ -14,10 +14,7 @@ pub fn assume(pures: &[Pure], mut known: Known) -> Option<Known>
     ensures { Assumed (map pure_of pures.now) known result }
 {
     for pure in pures {
-        let Some(more) = assume_one(*pure, &known) else {
-            return None;
-        };
-        known = more;
+        known = assume_one(*pure, &known)?;
     }
     Some(known)
 }

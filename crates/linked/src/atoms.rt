@@ -1,11 +1,14 @@
 // Up to 64 cells and rows, by value.
-ghost use Rattle.std.specs.Prelude.{◌≡◌, ℕ, ◌+◌, ◌<◌, ◌≤◌, [], ◌∷◌, ◌++◌, length, take, slice_index_or};
+ghost use Rattle.std.specs.Prelude.{◌≡◌, ℕ, ◌+◌, ◌<◌, ◌≤◌, [], ◌∷◌, ◌++◌, map, length, take, slice_index_or};
+ghost use Rattle.std.specs.List.{AllByRecursion};
 ghost use Rattle.claims.specs.Meaning.{atom_of};
+ghost use Rattle.claims.specs.Words.{AtomBelow};
 ghost use Rattle.memory.specs.Owners.{start, end};
 ghost use Rattle.linked.specs.Spare.{spare};
 
 use claims::{Atom, Name};
 
+// An array with a count, since a vector of fixed capacity is not `Copy`, and parts of questions are handed on by value.
 #[derive(Clone, Copy)]
 pub struct Live {
     pub atoms: [Atom; 64],
@@ -41,5 +44,16 @@ impl Live {
             atoms,
             count: self.count + 1,
         }
+    }
+
+    // The atoms, in order.
+    pub fn as_slice(&self) -> &[Atom]
+        ensures value { result.now ≡ take self.now.count self.now.atoms }
+        ensures count { length result.now ≡ self.now.count }
+        ensures below { AllByRecursion (AtomBelow 64) (map atom_of result.now) }
+        ensures starts { (j : ℕ) → j < length result.now → start (atom_of (slice_index_or result.now j spare)) < 64 }
+        ensures ends { (j : ℕ) → j < length result.now → end (atom_of (slice_index_or result.now j spare)) < 64 }
+    {
+        &self.atoms[..self.count]
     }
 }

@@ -1,74 +1,42 @@
 // Can the place of a name be one of the cells of a cell or row?
-ghost use Rattle.std.specs.Prelude.{◌≡◌, ℕ, ◌<◌, true};
-ghost use Rattle.linked.specs.Bits.{bit};
+ghost use Rattle.std.specs.Prelude.{◌≡◌, ◌<◌, true};
+ghost use Rattle.claims.specs.Meaning.{atom_of};
 ghost use Rattle.linked.specs.Living.{atoms_of};
-ghost use Rattle.linked.specs.Reaching.{Reached, Barred};
+ghost use Rattle.linked.specs.Reaching.{Barred, CellBegins};
 
-use crate::atoms::Live;
 use crate::known::Known;
-use crate::reaching::has;
+use crate::reaching::Reach;
 use claims::Atom;
 
-// Does a cell other than the atom number e begin in the set?
-fn cell_begins(live: &Live, known: &Known, e: usize, s: u8, set: u64) -> bool
-    requires { Reached (atoms_of live.now) e s set }
-    ensures { result ≡ true → Barred known.now (atoms_of live.now) e s }
-{
-    for j in 0..live.count {
-        let Atom::Cell(x, _) = live.get(j) else {
-            continue;
-        };
-        if j != e && has(set, x.0) {
-            return true;
-        }
+impl Reach<'_> {
+    // Is the atom a cell that begins at a name that is reached?
+    fn is_cell_reached(&self, atom: &Atom) -> bool
+        ensures { result ≡ true → CellBegins self.now.names.0 (atom_of atom.now) }
+    {
+        matches!(atom, Atom::Cell(x, _) if self.names.has(x.0))
     }
-    false
-}
 
-// Is one of the set known to be other than x, which is one of it?
-fn other_than(live: &Live, known: &Known, e: usize, s: u8, set: u64, x: u8) -> bool
-    requires reached { Reached (atoms_of live.now) e s set }
-    requires small { x < 64 }
-    requires one { bit set x ≡ true }
-    ensures { result ≡ true → Barred known.now (atoms_of live.now) e s }
-{
-    let row = known.others[x as usize];
-    // most rows have nothing in common with the set: the look at each name is left out
-    if row.mask() & set == 0 {
-        return false;
+    // Does a cell other than the one that is left out begin at a name that is reached?
+    fn has_cell(&self) -> bool
+        ensures { result ≡ true → (k : Known) → Barred k (atoms_of self.now.live.now) self.now.without self.now.from }
+    {
+        let atoms = self.live.as_slice();
+        atoms.iter().enumerate().any(|(j, atom)| j != self.without && self.is_cell_reached(atom))
     }
-    for y in 0..64u8 {
-        if has(set, y) && row.has(y) {
-            return true;
-        }
-    }
-    false
-}
 
-// Are two names of the set known to be other?
-fn parted(live: &Live, known: &Known, e: usize, s: u8, set: u64) -> bool
-    requires { Reached (atoms_of live.now) e s set }
-    ensures { result ≡ true → Barred known.now (atoms_of live.now) e s }
-{
-    for x in 0..64u8 {
-        if has(set, x) && other_than(live, known, e, s, set, x) {
-            return true;
-        }
+    // Is x reached, and known to be other than a name that is reached?
+    fn is_other_reached(&self, known: &Known, x: u8) -> bool
+        requires { x < 64 }
+        ensures { result ≡ true → Barred known.now (atoms_of self.now.live.now) self.now.without self.now.from }
+    {
+        self.names.has(x) && known.others[x as usize].mask().meets(self.names)
     }
-    false
-}
 
-// With what is reached from s without the atom number e: can the place of s be none of its cells? Only if that is
-// nowhere, if two that are other would stand for it, or if another cell is there.
-pub fn barred(live: &Live, known: &Known, e: usize, s: u8, set: u64) -> bool
-    requires { Reached (atoms_of live.now) e s set }
-    ensures { result ≡ true → Barred known.now (atoms_of live.now) e s }
-{
-    if has(set, 0) {
-        return true;
+    // Can the place from which they are reached be none of the cells of the atom that is left out? Only if that is
+    // nowhere, if another cell is there, or if two that are other would stand for it.
+    pub fn is_barred(&self, known: &Known) -> bool
+        ensures { result ≡ true → Barred known.now (atoms_of self.now.live.now) self.now.without self.now.from }
+    {
+        self.names.has(0) || self.has_cell() || (0..64u8).any(|x| self.is_other_reached(known, x))
     }
-    if cell_begins(live, known, e, s, set) {
-        return true;
-    }
-    parted(live, known, e, s, set)
 }

@@ -10,6 +10,7 @@ fn columns(mut others: [NameSet; 64], a: u8, b: u8) -> [NameSet; 64]
     requires b_small { b < 64 }
     ensures { Columned others a b 64 result }
 {
+    // by number: of what is written through `iter_mut` a proof knows nothing after the loop
     for x in 0..64usize {
         let row = others[x];
         if row.has(b) {

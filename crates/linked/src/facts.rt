@@ -7,17 +7,14 @@ ghost use Rattle.linked.specs.Knowing.{Agrees, known_same, known_other, Joined, 
 use crate::bits::NameSet;
 use crate::carries::{add, carry};
 use crate::known::Known;
+use std::array;
 
 // Each name stands for itself.
 fn each_itself() -> [u8; 64]
     ensures all { length result ≡ 64 }
     ensures itself { (x : ℕ) → x < 64 → slice_index result x ≡ x }
 {
-    let mut stands = [0u8; 64];
-    for x in 0..64u8 {
-        stands[x as usize] = x;
-    }
-    stands
+    array::from_fn(|x| x as u8)
 }
 
 // No name is other than another.
@@ -54,10 +51,7 @@ impl Known {
     {
         let a = self.find(x);
         let b = self.find(y);
-        if self.others[a as usize].has(b) {
-            return true;
-        }
-        self.others[b as usize].has(a)
+        self.others[a as usize].has(b) || self.others[b as usize].has(a)
     }
 
     // What is known if a and b, which stand for themselves, are the same.

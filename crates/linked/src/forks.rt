@@ -1,55 +1,18 @@
 // Does nothing fork? Then a claim with these cells and rows whose same and other are known holds of a memory with one cell for
 // each that isn't known to be empty, and in which names are the same only where that is known.
-ghost use Rattle.std.specs.Prelude.{◌≡◌, ℕ, ◌<◌, true, false, map, ◌≢◌};
+ghost use Rattle.std.specs.Prelude.{◌≡◌, true, map};
 ghost use Rattle.std.specs.List.{AllByRecursion};
 ghost use Rattle.claims.specs.Meaning.{atom_of};
 ghost use Rattle.claims.specs.Words.{AtomBelow};
-ghost use Rattle.linked.specs.Forking.{begin_of, HasGeneric, SettledMemory};
+ghost use Rattle.linked.specs.Forking.{HasGeneric, SettledMemory};
 ghost use Rattle.linked.specs.Generics.{live, Forkless, HoldsGeneric};
 ghost use Rattle.linked.specs.Living.{atoms_of};
 
 use crate::atoms::Live;
 use crate::bits::NameSet;
 use crate::known::Known;
-use crate::steps::begin;
+use crate::view::View;
 use claims::Atom;
-
-// The name that stands for where the atom number i begins.
-fn stands_at(live: &Live, known: &Known, i: usize) -> u8
-    requires { i < live.now.count }
-    ensures { result ≡ begin_of known.now (atoms_of live.now) i }
-{
-    known.find(begin(live.get(i)))
-}
-
-// Does a later atom begin where the atom number i does?
-fn forks_later(live: &Live, known: &Known, i: usize) -> bool
-    requires { i < live.now.count }
-    ensures { result ≡ false → (j : ℕ) → i < j → j < live.now.count → begin_of known.now (atoms_of live.now) j ≢ begin_of known.now (atoms_of live.now) i }
-{
-    let start = stands_at(live, known, i);
-    for j in i + 1..live.count {
-        if stands_at(live, known, j) == start {
-            return true;
-        }
-    }
-    false
-}
-
-// Do all atoms begin somewhere, and no two at one place?
-pub fn nothing_forks(live: &Live, known: &Known) -> bool
-    ensures { result ≡ true → HasGeneric known.now (atoms_of live.now) }
-{
-    for i in 0..live.count {
-        if stands_at(live, known, i) == 0 {
-            return false;
-        }
-        if forks_later(live, known, i) {
-            return false;
-        }
-    }
-    true
-}
 
 // Is it not known to be empty?
 fn is_live(atom: Atom, known: &Known) -> bool
@@ -74,7 +37,7 @@ pub fn is_forkless(atoms: &[Atom], known: &Known) -> bool
         if !is_live(*atom, known) {
             continue;
         }
-        let start = known.find(begin(*atom));
+        let start = known.find(atom.start().0);
         if start == 0 {
             return false;
         }
@@ -84,4 +47,13 @@ pub fn is_forkless(atoms: &[Atom], known: &Known) -> bool
         seen = seen.with(start);
     }
     true
+}
+
+impl View<'_> {
+    // The same of live atoms.
+    pub fn nothing_forks(&self) -> bool
+        ensures { result ≡ true → HasGeneric self.now.known.now (atoms_of self.now.live.now) }
+    {
+        is_forkless(self.live.as_slice(), self.known)
+    }
 }

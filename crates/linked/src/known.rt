@@ -7,6 +7,8 @@ use claims::Name;
 
 // Known same: each name's entry is one that it is the same as, and the last on the way up stands for the class.
 // Known other: for each name the set of those that it is other than.
+// Names are numbers here, and each use asks that they are below 64: a claim's `Name` has no limit of its own, so a type with
+// the limit would be made by the same fact at each of these uses.
 #[derive(Clone, Copy)]
 pub struct Known {
     pub stands: [u8; 64],
@@ -27,12 +29,8 @@ impl Known {
         ensures below { result < 64 }
     {
         let mut at = x;
-        for _step in 0..64u8 {
-            let up = self.stands[at as usize];
-            if up == at {
-                break;
-            }
-            at = up;
+        while self.stands[at as usize] != at {
+            at = self.stands[at as usize];
         }
         at
     }

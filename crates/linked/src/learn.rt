@@ -18,13 +18,8 @@ pub fn learn(pures: &[Pure], atoms: &[Atom]) -> Option<Known>
     ensures learnt { Learnt (map pure_of pures.now) (map atom_of atoms.now) result }
     ensures met { AllMet (map pure_of pures.now) result }
 {
-    let Some(known) = assume(pures, Known::new()) else {
-        return None;
-    };
-    let Some(more) = propagate(atoms, known) else {
-        return None;
-    };
-    Some(more)
+    let known = assume(pures, Known::new())?;
+    propagate(atoms, known)
 }
 
 // The same of a question's first claim.

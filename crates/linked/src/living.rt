@@ -27,10 +27,7 @@ fn settled(atom: Atom, known: &Known) -> Atom
 fn is_empty(atom: Atom) -> bool
     ensures { result ≡ true → (n : Names) → Empty n (atom_of atom) }
 {
-    match atom {
-        Atom::Cell(_, _) => false,
-        Atom::Row(x, y) => x.0 == y.0,
-    }
+    matches!(atom, Atom::Row(x, y) if x == y)
 }
 
 impl Live {

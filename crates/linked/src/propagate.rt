@@ -8,7 +8,7 @@ ghost use Rattle.linked.specs.Propagating.{Propagated};
 
 use crate::atoms::Live;
 use crate::known::Known;
-use crate::steps::round;
+use crate::view::View;
 use claims::Atom;
 
 // What is known of names if a memory is dealt out to these cells and rows, beyond what was known before; or nothing
@@ -20,17 +20,18 @@ pub fn propagate(atoms: &[Atom], mut known: Known) -> Option<Known>
     ensures no_more { NoMore known result }
 {
     let mut before = 65;
-    // Each turn but the last finds a row to be empty, and there are 64.
-    'again: for _turn in 0..65u8 {
+    'again: loop {
         let live = Live::of(atoms, &known);
-        if live.count == before {
-            break 'again;
+        // Each turn but the last finds a row to be empty.
+        if live.count < before {
+            before = live.count;
+            let view = View {
+                live: &live,
+                known: &known,
+            };
+            known = view.round()?;
+            continue 'again;
         }
-        before = live.count;
-        let Some(more) = round(&live, &known) else {
-            return None;
-        };
-        known = more;
+        return Some(known);
     }
-    Some(known)
 }

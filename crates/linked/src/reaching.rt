@@ -1,61 +1,65 @@
 // What is reached from a name over the cells and rows other than one.
-ghost use Rattle.std.specs.Prelude.{◌≡◌, ℕ, ◌<◌, true, ◌||◌, ◌==◌};
-ghost use Rattle.linked.specs.Bits.{bit};
+ghost use Rattle.std.specs.Prelude.{◌≡◌, ◌<◌, ◌≤◌};
 ghost use Rattle.linked.specs.Living.{atoms_of};
 ghost use Rattle.linked.specs.Reaching.{Reached};
 
 use crate::atoms::Live;
+use crate::bits::NameMask;
 use claims::Atom;
 
-// Is the name in the set?
-pub fn has(set: u64, x: u8) -> bool
-    requires { x < 64 }
-    ensures { result ≡ bit set x }
-{
-    (set >> x) & 1 == 1
+// The names that are reached from one without the atom of a number.
+#[derive(Clone, Copy)]
+pub struct Reach<'a> {
+    pub live: &'a Live,
+    pub without: usize,
+    pub from: u8,
+    pub names: NameMask,
+    ghost reached: { Reached (atoms_of live.now) without from names.0 },
 }
 
-// The set with one more name.
-pub fn with(set: u64, x: u8) -> u64
-    requires { x < 64 }
-    ensures { (j : ℕ) → bit result j ≡ (bit set j || j == x) }
-{
-    set | (1 << x)
-}
-
-// One sweep over the rows other than number e: the end of each that begins in the set.
-fn sweep(live: &Live, e: usize, s: u8, mut set: u64) -> u64
-    requires { Reached (atoms_of live.now) e s set }
-    ensures { Reached (atoms_of live.now) e s result }
-{
-    for j in 0..live.count {
-        if j == e {
-            continue;
+impl Live {
+    // The names that are reached from s without the atom number e.
+    pub fn reach(&self, e: usize, s: u8) -> Reach<'_>
+        requires { s < 64 }
+        ensures live { result.live.now ≡ self.now }
+        ensures without { result.without ≡ e }
+        ensures from { result.from ≡ s }
+    {
+        let mut names = NameMask::new().with(s);
+        'again: loop {
+            let reach = Reach {
+                live: self,
+                without: e,
+                from: s,
+                names,
+            };
+            names = reach.swept();
+            if names != reach.names {
+                continue 'again;
+            }
+            return reach;
         }
-        let Atom::Row(x, y) = live.get(j) else {
-            continue;
-        };
-        if !has(set, x.0) {
-            continue;
-        }
-        set = with(set, y.0);
     }
-    set
 }
 
-// The names that are reached from s without the atom number e.
-pub fn reach(live: &Live, e: usize, s: u8) -> u64
-    requires { s < 64 }
-    ensures { Reached (atoms_of live.now) e s result }
-{
-    let mut set = with(0, s);
-    // Each sweep but the last finds one more of 64 names.
-    for _round in 0..64u8 {
-        let more = sweep(live, e, s, set);
-        if more == set {
-            break;
+impl Reach<'_> {
+    // The names after one sweep over the rows: with the end of each that begins at one that is reached.
+    fn swept(&self) -> NameMask
+        ensures reached { Reached (atoms_of self.now.live.now) self.now.without self.now.from result.0 }
+        ensures grows { self.now.names.0 ≤ result.0 }
+    {
+        let mut names = self.names;
+        for (j, atom) in self.live.as_slice().iter().enumerate() {
+            if j == self.without {
+                continue;
+            }
+            let Atom::Row(x, y) = *atom else {
+                continue;
+            };
+            if names.has(x.0) {
+                names = names.with(y.0);
+            }
         }
-        set = more;
+        names
     }
-    set
 }

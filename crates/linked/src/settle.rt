@@ -8,6 +8,7 @@ use crate::known::Known;
 use crate::learn::learn_first;
 use claims::Question;
 
+// Three outcomes, of which two know something: a Result or Option of two kinds of knowledge would be no plainer.
 pub enum Outcome {
     // the claim can't be
     Never,

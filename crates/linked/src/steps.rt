@@ -1,117 +1,64 @@
 // What a look at one cell or row finds out.
 ghost use Rattle.std.specs.Prelude.{◌≡◌, ◌<◌};
-ghost use Rattle.claims.specs.Meaning.{atom_of};
-ghost use Rattle.memory.specs.Owners.{start};
 ghost use Rattle.linked.specs.Knowing.{NoMore};
 ghost use Rattle.linked.specs.Living.{atoms_of};
 ghost use Rattle.linked.specs.Propagating.{Propagated};
 ghost use Rattle.linked.specs.Reaching.{FoundOut};
 
-use crate::atoms::Live;
-use crate::barring::barred;
 use crate::known::Known;
-use crate::reaching::{has, reach};
+use crate::view::View;
 use claims::Atom;
 
-#[derive(Clone, Copy)]
-pub enum Step {
-    // nothing new
-    Nothing,
-    // a row between these must be empty, so that they are the same
-    Empty(u8, u8),
-    // the claim can't be
-    Never,
-}
+// The claim can't be.
+#[derive(Clone, Copy, Debug, PartialEq, Eq)]
+pub struct Never;
 
-// Can the atom number e have a cell where it begins? If not, it is an empty row, or the claim can't be.
-fn look(live: &Live, known: &Known, e: usize) -> Step
-    requires { e < live.now.count }
-    ensures { FoundOut known.now (atoms_of live.now) result }
-{
-    match live.get(e) {
-        Atom::Cell(x, _) => {
-            let set = reach(live, e, x.0);
-            if barred(live, known, e, x.0, set) {
-                return Step::Never;
+impl View<'_> {
+    // Can the atom number e have a cell where it begins? If not, it is an empty row, whose ends are the same, or the claim
+    // can't be.
+    pub fn look(&self, e: usize) -> Result<Option<(u8, u8)>, Never>
+        requires { e < self.now.live.now.count }
+        ensures { FoundOut self.now.known.now (atoms_of self.now.live.now) result }
+    {
+        let atom = self.live.get(e);
+        let reach = self.live.reach(e, atom.start().0);
+        let barred = reach.is_barred(self.known);
+        match atom {
+            Atom::Cell(_, _) if barred => Err(Never),
+            Atom::Row(x, y) if barred || reach.names.has(y.0) => Ok(Some((x.0, y.0))),
+            _ => Ok(None),
+        }
+    }
+
+    // Only where two go out from one name, or one from nowhere, can a look find something.
+    fn is_worth_a_look(&self, e: usize) -> bool
+        requires { e < self.now.live.now.count }
+    {
+        let start = self.live.get(e).start();
+        start.0 == 0
+            || self
+                .live
+                .as_slice()
+                .iter()
+                .enumerate()
+                .any(|(j, atom)| j != e && atom.start() == start)
+    }
+
+    // One look at each of the atoms, at what was known before: all that they find out is joined, since what is found from
+    // less stays true. A new look after each would cost more.
+    pub fn round(&self) -> Option<Known>
+        ensures propagated { Propagated (atoms_of self.now.live.now) self.now.known.now result }
+        ensures no_more { NoMore self.now.known.now result }
+    {
+        let mut more = *self.known;
+        for e in 0..self.live.count {
+            if !self.is_worth_a_look(e) {
+                continue;
+            }
+            if let Some((x, y)) = self.look(e).ok()? {
+                more = more.join(x, y)?;
             }
         }
-        Atom::Row(x, y) => {
-            let set = reach(live, e, x.0);
-            if barred(live, known, e, x.0, set) {
-                return Step::Empty(x.0, y.0);
-            }
-            if has(set, y.0) {
-                return Step::Empty(x.0, y.0);
-            }
-        }
+        Some(more)
     }
-    Step::Nothing
-}
-
-// The name where it begins.
-pub fn begin(atom: Atom) -> u8
-    ensures { result ≡ start (atom_of atom) }
-{
-    match atom {
-        Atom::Cell(x, _) => x.0,
-        Atom::Row(x, _) => x.0,
-    }
-}
-
-// Only where two go out from one name, or one from nowhere, can a look find something.
-fn worth_a_look(live: &Live, e: usize) -> bool
-    requires { e < live.now.count }
-{
-    let start = begin(live.get(e));
-    if start == 0 {
-        return true;
-    }
-    for j in 0..live.count {
-        if j != e && begin(live.get(j)) == start {
-            return true;
-        }
-    }
-    false
-}
-
-// The first thing that a look at one of the atoms finds out.
-pub fn next_step(live: &Live, known: &Known) -> Step
-    ensures { FoundOut known.now (atoms_of live.now) result }
-{
-    for e in 0..live.count {
-        if !worth_a_look(live, e) {
-            continue;
-        }
-        let found = look(live, known, e);
-        if let Step::Nothing = found {
-            continue;
-        }
-        return found;
-    }
-    Step::Nothing
-}
-
-// One look at each of the atoms, at what was known before: all that they find out is joined, since what is found from
-// less stays true. A new look after each would cost more.
-pub fn round(live: &Live, known: &Known) -> Option<Known>
-    ensures propagated { Propagated (atoms_of live.now) known.now result }
-    ensures no_more { NoMore known.now result }
-{
-    let mut more = *known;
-    for e in 0..live.count {
-        if !worth_a_look(live, e) {
-            continue;
-        }
-        match look(live, known, e) {
-            Step::Nothing => continue,
-            Step::Never => return None,
-            Step::Empty(x, y) => {
-                let Some(joined) = more.join(x, y) else {
-                    return None;
-                };
-                more = joined;
-            }
-        }
-    }
-    Some(more)
 }

@@ -34,8 +34,8 @@ live_push l r a e = ap (map atom_of) e ∙ map_push atom_of (take l.count l.atom
 
 -- the first j + 1 of a list, the last of which is known
 pub list_on :
-    {A : Type 0} (xs : List A) (j : ℕ) (a : A) → j < length xs → ((d : A) → get_or xs j d ≡ a) → take (j + 1) xs ≡ take j xs ++ a ∷ []
-list_on xs j a h is = take_more xs j a h ∙ ap (λ x. take j xs ++ x ∷ []) (is a)
+    {A : Type 0} (xs : List A) (j : ℕ) (a d : A) → j < length xs → get_or xs j d ≡ a → take (j + 1) xs ≡ take j xs ++ a ∷ []
+list_on xs j a d h is = take_more xs j d h ∙ ap (λ x. take j xs ++ x ∷ []) is
 
 pub parts_left : {A : Type 0} {a b m : List A} (x : A) → Parts a b m → Parts (a ++ x ∷ []) b (m ++ x ∷ [])
 parts_left x none_p = left_p none_p
@@ -89,12 +89,12 @@ divided_none l w a b ea eb = (
 )
 
 module _ (l : Live) (w : List ℕ) (a b r : Live) (j : ℕ) (x : CodeAtom) (within : j < l.count) (room : 64 ≤ length w)
-    (is : (d : Atom) → get_or (atoms_of l) j d ≡ atom_of x) (so_far : DividedTo l w a b j) where
+    (is : get_or (atoms_of l) j (row 0 0) ≡ atom_of x) (so_far : DividedTo l w a b j) where
   upto : length (take j (atoms_of l)) ≡ j
   upto = length-take-le j (atoms_of l) (omega (arith, live-length l))
 
   further : take (j + 1) (atoms_of l) ≡ take j (atoms_of l) ++ atom_of x ∷ []
-  further = list_on (atoms_of l) j (atom_of x) (omega (arith, live-length l)) is
+  further = list_on (atoms_of l) j (atom_of x) (row 0 0) (omega (arith, live-length l)) is
 
   pub divided_free :
       take r.count r.atoms ≡ take a.count a.atoms ++ x ∷ [] → r.count ≡ a.count + 1 → get_or w j 0 ≡ 0 → DividedTo l w r b (j + 1)
@@ -126,3 +126,7 @@ below_64 l =
     All-from_get_or (AtomBelow 64) (atoms_of l) (row 0 0) λ i h.
     let within : i < l.count = omega (arith, live-length l) in
     subst (AtomBelow 64) (sym (live_at l i (row 0 0) within)) (atom_small (atom_of (get_or l.atoms i spare)) (l.starts i within) (l.ends i within))
+
+-- and so are those of its slice
+pub slice_below : (l : Live) (xs : List CodeAtom) → xs ≡ take l.count l.atoms → AllByRecursion (AtomBelow 64) (map atom_of xs)
+slice_below l xs e = subst (λ u. AllByRecursion (AtomBelow 64) (map atom_of u)) (sym e) (below_64 l)

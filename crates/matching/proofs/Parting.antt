@@ -3,9 +3,9 @@
 -- lives_append: lists that say the same, one behind the other.
 -- regrouped: a list in two parts and others behind it, in another order.
 -- cancel_none, cancel_found, cancel_kept, cancel_all: the turns of a loop that takes out what is found.
-use Rattle.std.proofs.Common.{◌≡◌, ℕ, ◌+◌, ◌<◌, ◌≤◌, List, [], ◌∷◌, ◌++◌, length, get_or, take, drop, Some, sym, ap, ◌∙◌, subst, subst₂, arith}
+use Rattle.std.proofs.Common.{◌≡◌, ℕ, ◌+◌, ◌<◌, ◌≤◌, List, [], ◌∷◌, ◌++◌, map, length, get_or, take, drop, Some, sym, ap, ap₂, ◌∙◌, subst, subst₂, arith}
 use Rattle.std.proofs.lemmas.List.{append-nil, append_assoc, drop_more, drop_all, take_at}
-use Rattle.claims.specs.Claims.{Atom}
+use Rattle.claims.specs.Claims.{Atom, row}
 use Rattle.claims.specs.Memory.{Parts}
 use Rattle.memory.specs.Marks.{unmarked}
 use Rattle.memory.specs.Taking.{Put, put_here, put_later}
@@ -18,8 +18,8 @@ use Rattle.linked.proofs.Reach.{live-length}
 use Rattle.matching.specs.Rules.{Closed, Made, taken}
 use Rattle.matching.specs.Parting.{own_of, wanted_of, whole_of, size, Regrouped, ComesTo, Only, Cut}
 use Rattle.matching.specs.declared.parts.Part.{Part}
-use Rattle.matching.specs.Using.{free, IsFree}
-use Rattle.matching.specs.declared.used.Used.{Used}
+use Rattle.matching.specs.Using.{mark, IsFree, all_of, left_of, AtomUsed}
+use Rattle.matching.specs.declared.rests.Rest.{Rest}
 use Rattle.matching.proofs.Rules.{parts_dealt, dealt_parts}
 use Rattle.matching.proofs.Consuming.{all_free}
 
@@ -51,41 +51,58 @@ put_middle (x ∷ xs) a ys = put_later (put_middle xs a ys)
 pub own_front : (l : Live) (es : List Atom) → take l.count (atoms_of l ++ es) ≡ atoms_of l
 own_front l es = take_at (atoms_of l) es l.count (live-length l)
 
+-- r is a rest of a part's own atoms, with the others behind them
+pub record RestOf (k : Known) (own : Live) (es : List Atom) (r : Rest) : Type 0 where
+  pub known : r.known.now ≡ k
+  pub all : all_of r ≡ atoms_of own ++ es
+  pub front : r.own ≡ own.count
+
 module _ (k : Known) (own : Live) (es ws : List Atom) where
+  -- it comes to this that is left, of both claims
+  abbrev pub LeftTo : Rest → List Atom → Type 0
+  LeftTo r vs = RestOf k own es r × ComesTo k (atoms_of own ++ es) (atoms_of own) ws (left_of r) vs
+
+  in_front : (r : Rest) → RestOf k own es r → take r.own (all_of r) ≡ atoms_of own
+  in_front r of = ap₂ take of.front of.all ∙ own_front own es
+
   pub cancel_none :
-      (u : Used) (left : List Atom) → ((i : ℕ) → i < 64 → IsFree u i) → left ≡ [] →
-      ComesTo k (atoms_of own ++ es) (atoms_of own) ws (free own.count u (atoms_of own ++ es)) (left ++ ws)
-  cancel_none u left none e m c d lives closed =
-      let free_all = ap (unmarked u.marks) (own_front own es) ∙ all_free u.marks (atoms_of own) (λ i h. none i (omega (arith, live-length own, own.few))) in
-      subst₂ (λ x y. Closed m c d (Some k) x (y ++ ws)) free_all e closed
+      (r : Rest) (left : List Atom) → RestOf k own es r → ((i : ℕ) → i < 64 → IsFree r.used i) → left ≡ [] → LeftTo r (left ++ ws)
+  cancel_none r left of none e =
+      let here = ap (unmarked (map mark r.used.marks)) (in_front r of) in
+      let all = all_free r.used (atoms_of own) none (omega (arith, live-length own, own.few)) in (
+        of,
+        λ m c d lives closed. subst₂ (λ x y. Closed m c d (Some k) x (y ++ ws)) (here ∙ all) e closed,
+      )
 
-  module _ (u : Used) (left : List Atom) (i : ℕ) (a : Atom) (within : i < length ws) (is : (d : Atom) → get_or ws i d ≡ a)
-      (before : ComesTo k (atoms_of own ++ es) (atoms_of own) ws (free own.count u (atoms_of own ++ es)) (left ++ drop i ws)) where
+  module _ (r : Rest) (left : List Atom) (i : ℕ) (a : Atom) (within : i < length ws) (is : get_or ws i (row 0 0) ≡ a)
+      (before : LeftTo r (left ++ drop i ws)) where
     this : drop i ws ≡ a ∷ drop (i + 1) ws
-    this = drop_more ws i a within ∙ ap (λ x. x ∷ drop (i + 1) ws) (is a)
+    this = drop_more ws i (row 0 0) within ∙ ap (λ x. x ∷ drop (i + 1) ws) is
 
-    pub cancel_found :
-        (v : Used) → Made k (atoms_of own ++ es) a (free own.count u (atoms_of own ++ es)) (free own.count v (atoms_of own ++ es)) →
-        ComesTo k (atoms_of own ++ es) (atoms_of own) ws (free own.count v (atoms_of own ++ es)) (left ++ drop (i + 1) ws)
-    cancel_found v made m c d lives closed =
-        before m c d lives
-        (subst (λ l. Closed m c d (Some k) (free own.count u (atoms_of own ++ es)) (left ++ l)) (sym this)
-        (taken lives (put_middle left a (drop (i + 1) ws)) made closed))
+    pub cancel_found : (q : Rest) → AtomUsed r a (Some q) → LeftTo q (left ++ drop (i + 1) ws)
+    cancel_found q (of, made) =
+        let here = before.0 in
+        let found = subst₂ (λ j ls. Made j ls a (left_of r) (left_of q)) here.known here.all made in (
+          record { known = of.known ∙ here.known; all = ap atoms_of of.live ∙ here.all; front = of.own ∙ here.front },
+          λ m c d lives closed.
+              before.1 m c d lives
+              (subst (λ l. Closed m c d (Some k) (left_of r) (left ++ l)) (sym this)
+              (taken lives (put_middle left a (drop (i + 1) ws)) found closed)),
+        )
 
-    pub cancel_kept :
-        (more : List Atom) → more ≡ left ++ a ∷ [] →
-        ComesTo k (atoms_of own ++ es) (atoms_of own) ws (free own.count u (atoms_of own ++ es)) (more ++ drop (i + 1) ws)
-    cancel_kept more e m c d lives closed =
-        let same = ap (λ l. l ++ drop (i + 1) ws) e ∙ append_assoc left (a ∷ []) (drop (i + 1) ws) ∙ ap (λ l. left ++ l) (sym this) in
-        before m c d lives (subst (λ l. Closed m c d (Some k) (free own.count u (atoms_of own ++ es)) l) same closed)
+    pub cancel_kept : (more : List Atom) → more ≡ left ++ a ∷ [] → LeftTo r (more ++ drop (i + 1) ws)
+    cancel_kept more e =
+        let same = ap (λ l. l ++ drop (i + 1) ws) e ∙ append_assoc left (a ∷ []) (drop (i + 1) ws) ∙ ap (λ l. left ++ l) (sym this) in (
+          before.0,
+          λ m c d lives closed. before.1 m c d lives (subst (λ l. Closed m c d (Some k) (left_of r) l) same closed),
+        )
 
   pub cancel_all :
-      (u : Used) (left qs : List Atom) (i : ℕ) → length ws ≤ i → qs ≡ unmarked u.marks (atoms_of own) →
-      ComesTo k (atoms_of own ++ es) (atoms_of own) ws (free own.count u (atoms_of own ++ es)) (left ++ drop i ws) →
-      ComesTo k (atoms_of own ++ es) (atoms_of own) ws qs left
-  cancel_all u left qs i end e before m c d lives closed =
+      (r : Rest) (left qs : List Atom) (i : ℕ) → length ws ≤ i → qs ≡ unmarked (map mark r.used.marks) (atoms_of own) →
+      LeftTo r (left ++ drop i ws) → ComesTo k (atoms_of own ++ es) (atoms_of own) ws qs left
+  cancel_all r left qs i end e (of, before) m c d lives closed =
       let none = ap (λ l. left ++ l) (drop_all i ws end) ∙ append-nil left in
-      let same = e ∙ ap (unmarked u.marks) (sym (own_front own es)) in
+      let same = e ∙ ap (unmarked (map mark r.used.marks)) (sym (in_front r of)) in
       before m c d lives (subst₂ (Closed m c d (Some k)) same (sym none) closed)
 
 -- a part cut in two

@@ -1,5 +1,5 @@
 -- Parts of a question, and what is done with them.
-use Rattle.std.specs.Prelude.{◌≡◌, ℕ, ◌+◌, ◌<◌, ◌≤◌, ◌↔◌, List, ◌++◌, Some, None, Option}
+use Rattle.std.specs.Prelude.{◌≡◌, ℕ, ◌+◌, ◌<◌, ◌≤◌, ◌↔◌, List, map, ◌++◌, Some, None, Option}
 use Rattle.claims.specs.Claims.{Atom, Claim}
 use Rattle.claims.specs.Memory.{Names, Memory, Parts, Dealt}
 use Rattle.memory.specs.Marks.{unmarked}
@@ -7,6 +7,7 @@ use Rattle.linked.specs.Living.{Lives, atoms_of}
 use Rattle.linked.specs.declared.atoms.Live.{Live}
 use Rattle.linked.specs.declared.known.Known.{Known}
 use Rattle.matching.specs.Rules.{Closed}
+use Rattle.matching.specs.Using.{mark}
 use Rattle.matching.specs.declared.parts.Part.{Part}
 use Rattle.matching.specs.declared.used.Used.{Used}
 
@@ -36,7 +37,7 @@ ComesTo k ls os ws qs vs =
 -- a list of atoms in those that are not marked and those that are
 pub record Divided (l : Live) (u : Used) (a b : Live) : Type 0 where
   pub parts : Parts (atoms_of a) (atoms_of b) (atoms_of l)
-  pub free : atoms_of a ≡ unmarked u.marks (atoms_of l)
+  pub free : atoms_of a ≡ unmarked (map mark u.marks) (atoms_of l)
   pub count : a.count + b.count ≡ l.count
 
 -- by the names that stand for them, and without rows that are known to be empty

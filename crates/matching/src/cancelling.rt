@@ -3,8 +3,7 @@ ghost use Rattle.matching.specs.Parting.{Renamed, Cancelled};
 
 use crate::dividing::{append, divide, renamed};
 use crate::parts::Part;
-use crate::used::Used;
-use crate::walking::use_atom;
+use crate::rests::Rest;
 use linked::atoms::Live;
 use linked::known::Known;
 
@@ -27,18 +26,16 @@ impl Part {
     pub fn cancelled(&self, known: &Known) -> Part
         ensures { Cancelled known.now self.now result }
     {
-        let whole = append(&self.own, &self.others);
-        let mut used = Used::new();
+        let whole = self.whole();
+        let mut rest = Rest::new(&whole, self.own.count, known);
         let mut wanted = Live::new();
-        for i in 0..self.wanted.count {
-            let atom = self.wanted.get(i);
-            let Some(more) = use_atom(&whole, self.own.count, known, used, atom) else {
-                wanted = wanted.with(atom);
-                continue;
-            };
-            used = more;
+        for atom in self.wanted.as_slice() {
+            match rest.without_atom(*atom) {
+                Some(less) => rest = less,
+                None => wanted = wanted.with(*atom),
+            }
         }
-        let (own, gone) = divide(&self.own, &used);
+        let (own, gone) = divide(&self.own, &rest.used);
         let others = append(&self.others, &gone);
         Part {
             own,

@@ -3,71 +3,58 @@
 // Cells and rows that share no name but nowhere say nothing of each other, so they can be settled one after the other,
 // where together they would have to be gone through in all combinations. Which atoms go together is free of proof: any
 // cut is right.
-ghost use Rattle.std.specs.Prelude.{◌+◌, ◌<◌, ◌≤◌};
+ghost use Rattle.std.specs.Prelude.{◌+◌, ◌≤◌};
 ghost use Rattle.matching.specs.Parting.{Only, CutSo};
 
 use crate::dividing::{append, divide};
 use crate::parts::Part;
 use crate::used::Used;
-use crate::walking::end;
+use claims::Name;
 use linked::atoms::Live;
-use linked::reaching::{has, with};
-use linked::steps::begin;
+use linked::bits::NameMask;
 
-// The set with the names of an atom of the list, if one of them is in it. Nowhere doesn't count.
-fn touch(list: &Live, j: usize, names: u64) -> u64
-    requires { j < list.now.count }
+// The names of the set, and of all atoms of the list that hang together with them in one sweep. Nowhere holds nothing together.
+fn sweep(list: &Live, mut names: NameMask) -> NameMask
+    ensures { names.0 ≤ result.0 }
 {
-    let x = begin(list.get(j));
-    let y = end(list.get(j));
-    if (x != 0 && has(names, x)) || (y != 0 && has(names, y)) {
-        with(with(names, x), y)
-    } else {
-        names
-    }
-}
-
-// The names of the set, and of all atoms of the list that hang together with them in one sweep.
-fn sweep(list: &Live, mut names: u64) -> u64 {
-    for j in 0..list.count {
-        names = touch(list, j, names);
-    }
-    names
-}
-
-// The names that hang together with the first atom's, over own and wanted atoms.
-fn together(part: &Part) -> u64 {
-    let mut names = if part.own.count > 0 {
-        with(begin_set(&part.own), 0)
-    } else {
-        with(begin_set(&part.wanted), 0)
-    };
-    for _round in 0..64u8 {
-        let more = sweep(&part.wanted, sweep(&part.own, names));
-        if more == names {
-            break;
+    for atom in list.as_slice() {
+        let x = atom.start().0;
+        let y = atom.end().0;
+        if (x != 0 && names.has(x)) || (y != 0 && names.has(y)) {
+            names = names.with(x).with(y);
         }
-        names = more;
     }
     names
 }
 
-// The first atom's names, if there is one.
-fn begin_set(list: &Live) -> u64 {
-    if list.count == 0 {
-        return 0;
+// Nowhere and the names that hang together with the first atom's, over own and wanted atoms.
+fn together(part: &Part) -> Option<NameMask> {
+    let own = part.own.as_slice().first();
+    let first = own.or(part.wanted.as_slice().first())?;
+    let mut names = NameMask::new()
+        .with(0)
+        .with(first.start().0)
+        .with(first.end().0);
+    'again: loop {
+        let more = sweep(&part.wanted, sweep(&part.own, names));
+        if more != names {
+            names = more;
+            continue 'again;
+        }
+        return Some(names);
     }
-    with(with(0, begin(list.get(0))), end(list.get(0)))
 }
 
 // Marks on the atoms that have a name in the set besides nowhere, and on those that have none but nowhere.
-fn marks(list: &Live, names: u64) -> Used {
+fn marks(list: &Live, names: NameMask) -> Used {
     let mut marks = Used::new();
-    for j in 0..list.count {
-        let x = begin(list.get(j));
-        let y = end(list.get(j));
-        let name = if x == 0 { y } else { x };
-        if has(names, name) {
+    for (j, atom) in list.as_slice().iter().enumerate() {
+        let name = if atom.start() == Name(0) {
+            atom.end()
+        } else {
+            atom.start()
+        };
+        if names.has(name.0) {
             marks.add(j);
         }
     }
@@ -92,7 +79,7 @@ impl Part {
     pub fn cut(&self) -> Option<(Part, Part)>
         ensures { CutSo self.now result }
     {
-        let names = together(self);
+        let names = together(self)?;
         let (own_rest, own_one) = divide(&self.own, &marks(&self.own, names));
         let (wanted_rest, wanted_one) = divide(&self.wanted, &marks(&self.wanted, names));
         if own_rest.count + wanted_rest.count == 0 || own_one.count + wanted_one.count == 0 {

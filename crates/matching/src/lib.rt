@@ -10,6 +10,7 @@ pub mod cutting;
 pub mod dividing;
 pub mod drawing;
 pub mod parts;
+pub mod rests;
 pub mod steps;
 pub mod used;
 pub mod using;

@@ -1,4 +1,4 @@
-// What comes next from a name.
+// What comes next from a name, to be taken apart by `let .. else`: over an atom, or nothing.
 
 #[derive(Clone, Copy)]
 pub enum Next {

@@ -1,57 +1,51 @@
 // Ways over the atoms that are still there: they guide a walk where several atoms begin, and nothing is promised of them.
-ghost use Rattle.std.specs.Prelude.{◌<◌, ◌≤◌};
+ghost use Rattle.std.specs.Prelude.{◌≡◌, ◌<◌, ◌≤◌, true};
+ghost use Rattle.matching.specs.Using.{Begins};
 
-use crate::used::Used;
-use crate::walking::end;
-use linked::atoms::Live;
-use linked::reaching::{has, with};
-use linked::steps::begin;
+use crate::rests::Rest;
+use linked::bits::NameMask;
 
-// How many of the first `own` atoms that are still there begin at s?
-pub fn ways(live: &Live, own: usize, used: &Used, s: u8) -> usize
-    requires { own ≤ live.now.count }
-{
-    let mut count: usize = 0;
-    for e in 0..own {
-        if !used.has(e) && begin(live.get(e)) == s {
-            count = count.saturating_add(1);
-        }
+impl<'a> Rest<'a> {
+    // Is the atom number e still there, and does it begin at s?
+    pub fn begins(&self, e: usize, s: u8) -> bool
+        requires { e < self.now.own }
+        ensures { result ≡ true → Begins self.now s e }
+    {
+        !self.used.has(e) && self.live.get(e).start().0 == s
     }
-    count
-}
 
-// The ends of those that begin in the set, besides.
-fn further(live: &Live, own: usize, used: &Used, without: usize, mut set: u64) -> u64
-    requires { own ≤ live.now.count }
-{
-    for j in 0..own {
-        if j == without || used.has(j) {
-            continue;
-        }
-        let atom = live.get(j);
-        if has(set, begin(atom)) {
-            set = with(set, end(atom));
-        }
+    // How many atoms that are still there begin at s?
+    pub fn ways(&self, s: u8) -> usize {
+        (0..self.own).filter(|e| self.begins(*e, s)).count()
     }
-    set
-}
 
-// Does a way lead to t from the end of the atom number e, over others?
-pub fn leads(live: &Live, own: usize, used: &Used, e: usize, t: u8) -> bool
-    requires all { own ≤ live.now.count }
-    requires within { e < own }
-    requires small { t < 64 }
-{
-    let mut set = with(0, end(live.get(e)));
-    for _round in 0..64u8 {
-        if has(set, t) {
-            return true;
+    // The names with the ends of those that begin at one of them, but for the atom number e.
+    fn further(&self, e: usize, mut names: NameMask) -> NameMask
+        ensures { names.0 ≤ result.0 }
+    {
+        for (j, atom) in self.live.as_slice()[..self.own].iter().enumerate() {
+            if j != e && !self.used.has(j) && names.has(atom.start().0) {
+                names = names.with(atom.end().0);
+            }
         }
-        let more = further(live, own, used, e, set);
-        if more == set {
+        names
+    }
+
+    // Does a way lead to t from the end of the atom number e, over others?
+    pub fn leads(&self, e: usize, t: u8) -> bool
+        requires { e < self.now.own }
+    {
+        let mut names = NameMask::new().with(self.live.get(e).end().0);
+        'again: loop {
+            if names.has(t) {
+                return true;
+            }
+            let more = self.further(e, names);
+            if more != names {
+                names = more;
+                continue 'again;
+            }
             return false;
         }
-        set = more;
     }
-    false
 }

@@ -14,17 +14,18 @@ assume_one-requires c =
     subst (PureBelow 64) (get_or-map pure_of c.args.pures.now c.loop-pure.pure-index _ (same 0 0) c.loop-pure-test.true)
     (All-get_or (PureBelow 64) (map pure_of c.args.pures.now) c.loop-pure.pure-index (same 0 0) (omega (arith, length-map c.args.pures.now pure_of)) c.requires)
 
-pub returns-in_default : goal.returns-in_default
-returns-in_default c =
-    assumed_never c.args.known c.loop-pure.known (map pure_of (take c.loop-pure.pure-index c.args.pures.now)) _ c.loop-pure.invariant
-    (map pure_of c.args.pures.now) c.loop-pure.pure-index c.in_default.ensures
-    (take-map pure_of _ c.args.pures.now ∙ map_more pure_of c.args.pures.now c.loop-pure.pure-index _ c.loop-pure-test.true)
+pub returns-in_err-known : goal.returns-in_err-known
+returns-in_err-known c =
+    subst (Assumed (map pure_of c.args.pures.now) c.args.known) (sym c.from_residual.ensures)
+    (assumed_never c.args.known c.loop-pure.known (map pure_of (take c.loop-pure.pure-index c.args.pures.now)) _ c.loop-pure.invariant
+    (map pure_of c.args.pures.now) c.loop-pure.pure-index (c.in_err-known.ensures)
+    (take-map pure_of _ c.args.pures.now ∙ map_more pure_of c.args.pures.now c.loop-pure.pure-index _ c.loop-pure-test.true))
 
 pub loop-pure-preserved : goal.loop-pure-preserved
 loop-pure-preserved c =
-    subst (λ u. Assumed u c.args.known (Some c.in-Some.more))
+    subst (λ u. Assumed u c.args.known (Some c.in_ok-known.known))
     (sym (map_more pure_of c.args.pures.now c.loop-pure.pure-index _ c.loop-pure-test.true))
-    (assumed_more c.args.known c.loop-pure.known (map pure_of (take c.loop-pure.pure-index c.args.pures.now)) _ c.loop-pure.invariant c.in-Some.more c.in-Some.ensures)
+    (assumed_more c.args.known c.loop-pure.known (map pure_of (take c.loop-pure.pure-index c.args.pures.now)) _ c.loop-pure.invariant c.in_ok-known.known c.in_ok-known.ensures)
 
 pub returns : goal.returns
 returns c =

@@ -33,14 +33,14 @@ loop-atom-preserved-then-not-is_live c =
 pub find-start-requires : goal.find-start-requires
 find-start-requires c =
     let b = below c.args.atoms.now c.loop-atom.atom-index c.loop-atom-test.true c.requires in
-    omega (arith, c.begin.ensures, start_below (atom_of (get_or c.args.atoms.now c.loop-atom.atom-index spare)) b)
+    omega (arith, c.start.ensures, start_below (atom_of (get_or c.args.atoms.now c.loop-atom.atom-index spare)) b)
 
 -- from here on the atom goes out from the name that was found
 pub returns-then-start-eq0 : goal.returns-then-start-eq0
 returns-then-start-eq0 c =
     let out =
-    code_out c.args.known.now c.args.atoms.now c.loop-atom.atom-index c.loop-atom-test.true c.begin.result c.find-start.result
-    c.if-not-is_live.ensures c.begin.ensures c.find-start.ensures.stands in
+    code_out c.args.known.now c.args.atoms.now c.loop-atom.atom-index c.loop-atom-test.true c.start.result.0 c.find-start.result
+    c.if-not-is_live.ensures c.start.ensures c.find-start.ensures.stands in
     record {
       exact = fork_nowhere c.args.known.now (map atom_of c.args.atoms.now) c.loop-atom.atom-index c.loop-atom.seen c.loop-atom.invariant c.find-start.result out c.if-start-eq0.true;
       settled = λ e. absurd (both_ways false refl e);
@@ -50,8 +50,8 @@ returns-then-start-eq0 c =
 pub returns-then-has : goal.returns-then-has
 returns-then-has c =
     let out =
-    code_out c.args.known.now c.args.atoms.now c.loop-atom.atom-index c.loop-atom-test.true c.begin.result c.find-start.result
-    c.if-not-is_live.ensures c.begin.ensures c.find-start.ensures.stands in
+    code_out c.args.known.now c.args.atoms.now c.loop-atom.atom-index c.loop-atom-test.true c.start.result.0 c.find-start.result
+    c.if-not-is_live.ensures c.start.ensures c.find-start.ensures.stands in
     record {
       exact = fork_two c.args.known.now (map atom_of c.args.atoms.now) c.loop-atom.atom-index c.loop-atom.seen c.loop-atom.invariant c.find-start.result out c.if-has.ensures;
       settled = λ e. absurd (both_ways false refl e);
@@ -61,8 +61,8 @@ returns-then-has c =
 pub loop-atom-preserved : goal.loop-atom-preserved
 loop-atom-preserved c =
     let out =
-    code_out c.args.known.now c.args.atoms.now c.loop-atom.atom-index c.loop-atom-test.true c.begin.result c.find-start.result
-    c.if-not-is_live.ensures c.begin.ensures c.find-start.ensures.stands in
+    code_out c.args.known.now c.args.atoms.now c.loop-atom.atom-index c.loop-atom-test.true c.start.result.0 c.find-start.result
+    c.if-not-is_live.ensures c.start.ensures c.find-start.ensures.stands in
     begun_more c.args.known.now (map atom_of c.args.atoms.now) c.loop-atom.atom-index c.loop-atom.seen c.loop-atom.invariant c.find-start.result out
     c.if-start-eq0.false c.if-has.ensures c.with-seen.result c.with-seen.ensures
 

@@ -6,3 +6,6 @@ use Rattle.linked.proofs.propagate.propagate.Given as goal
 
 abbrev pub invariant-again : goal.invariant-again
 invariant-again l = Learns (map atom_of l.atoms) l.initial.known l.known × (open_pairs l.known ≤ open_pairs l.initial.known)
+
+abbrev pub decreases-again : goal.decreases-again
+decreases-again l = l.before

@@ -1,11 +1,10 @@
 use Rattle.std.proofs.Common.{◌≤◌, ◌++◌, drop}
 use Rattle.linked.specs.Living.{atoms_of}
-use Rattle.matching.specs.Parting.{ComesTo, whole_of, own_of, wanted_of}
-use Rattle.matching.specs.Using.{free}
+use Rattle.matching.specs.Parting.{wanted_of}
+use Rattle.matching.proofs.Parting.{LeftTo}
 use Rattle.matching.proofs.parts.Part.cancelled.Given as goal
 
-abbrev pub invariant-loop-i : goal.invariant-loop-i
-invariant-loop-i l =
-    (l.wanted.count ≤ l.i) ×
-    ComesTo l.known (whole_of l.self) (own_of l.self) (wanted_of l.self) (free l.self.own.count l.used (whole_of l.self))
-    (atoms_of l.wanted ++ drop l.i (wanted_of l.self))
+abbrev pub invariant-loop-atom : goal.invariant-loop-atom
+invariant-loop-atom l =
+    (l.wanted.count ≤ l.atom-index) ×
+    LeftTo l.known l.self.own (atoms_of l.self.others) (wanted_of l.self) l.rest (atoms_of l.wanted ++ drop l.atom-index (wanted_of l.self))
