@@ -1,9 +1,7 @@
--- From what the code has found to what it answers: each way of `first_false`, `deal` and `holds`.
-use Rattle.std.proofs.Common.{◌≡◌, ℕ, ◌+◌, ◌/◌, ◌<◌, ◌≤◌, T, List, map, length, get_or, take, set, sym, ◌∙◌, subst, arith}
+-- From what the code has found to what it answers: `first_false`, and each way of `deal` and `holds`.
+use Rattle.std.proofs.Common.{◌≡◌, ℕ, zero, suc, ◌+◌, ◌/◌, ◌<◌, T, true, List, [], ◌∷◌, map, length, get_or, take, set, Some, None, Ok, Err, Option, Result, sym, ap, ◌∙◌, subst, arith}
 use Rattle.std.specs.List.{AllByRecursion}
 use Rattle.std.proofs.lemmas.List.{get_or-map, length-map, take_all}
-use Rattle.std.proofs.ByRecursion.{All-more}
-use Rattle.claims.specs.Claims as claims
 use Rattle.claims.specs.Memory.{Names, Memory, sound, PureHolds, AtomHolds, Dealt, Parts, Says}
 use Rattle.claims.specs.Meaning.{pure_of, atom_of}
 use Rattle.claims.specs.declared.parts.Pure.{Pure}
@@ -12,9 +10,14 @@ use Rattle.claims.specs.declared.parts.Atom.{Atom}
 use Rattle.claims.specs.declared.parts.Atom.TheVariants.{Cell}
 use Rattle.claims.specs.declared.names.Place.{Place}
 use Rattle.memory.specs.Marks.{memory_of, rest_of}
+use Rattle.memory.specs.Dealings.{rest}
+use Rattle.memory.specs.declared.cells.SoundMemory.{SoundMemory}
+use Rattle.memory.specs.declared.dealings.Dealing.{Dealing}
 use Rattle.memory.specs.Taking.{Takes}
-use Rattle.memory.specs.Walks.{AtomStuck}
-use Rattle.memory.specs.Judging.{FirstFalse, AtomsStuck, AtomsLeave, Deals, FailsFor, claim_from}
+use Rattle.std.specs.Result.{is_ok}
+use Rattle.memory.specs.Walks.{AtomStuck, AtomTaken}
+use Rattle.memory.specs.Judging.{FirstFalse, FalseFound, AtomsStuck, AtomsLeave, Deals, DealtOut, FailsFor, claim_from}
+use Rattle.memory.specs.declared.deals.Why.{Why}
 use Rattle.memory.specs.declared.deals.Why.TheVariants as why
 use Rattle.memory.proofs.Parts.{parts_comm, parts_none}
 use Rattle.memory.proofs.Marking.{length_memory, mark_out, none-unmarked}
@@ -27,32 +30,41 @@ no_pure = Same (record { 0 = 0 }) (record { 0 = 0 })
 abbrev pub no_atom : Atom
 no_atom = Cell (record { 0 = 0 }) (record { 0 = 0 })
 
-module _ (n : Names) (ps : List Pure) (i : ℕ) (within : i < length ps) (before : AllByRecursion (PureHolds n) (take i (map pure_of ps))) where
-  this_pure : (d : claims.Pure) → get_or (map pure_of ps) i d ≡ pure_of (get_or ps i no_pure)
-  this_pure d = get_or-map pure_of ps i no_pure d within
+module _ (n : Names) where
+  abbrev Holds : List Pure → ℕ → Type 0
+  Holds ps k = PureHolds n (pure_of (get_or ps k no_pure))
 
-  long : i < length (map pure_of ps)
-  long = omega (arith, length-map ps pure_of)
+  -- what `position` finds
+  abbrev pub PositionFalse : List Pure → Option ℕ → Type 0
+  PositionFalse ps (Some i) = (i < length ps) × (Holds ps i → ⊥) × ((k : ℕ) → k < i → Holds ps k)
+  PositionFalse ps None = (k : ℕ) → k < length ps → Holds ps k
 
-  pub pure_true : PureHolds n (pure_of (get_or ps i no_pure)) → AllByRecursion (PureHolds n) (take (i + 1) (map pure_of ps))
-  pure_true h =
-      let d = claims.same 0 0 in
-      All-more (PureHolds n) (map pure_of ps) i d long before (subst (λ f. PureHolds n f) (sym (this_pure d)) h)
+  first_hold : (ps : List Pure) (i : ℕ) → ((k : ℕ) → k < i → k < length ps → Holds ps k) → AllByRecursion (PureHolds n) (take i (map pure_of ps))
+  first_hold ps zero h = tt
+  first_hold [] (suc i) h = tt
+  first_hold (p ∷ ps) (suc i) h = (h 0 (omega arith) (omega arith), first_hold ps i (λ k l m. h (suc k) (omega arith) (omega arith)))
 
-  pub pure_false : (PureHolds n (pure_of (get_or ps i no_pure)) → ⊥) → FirstFalse n (map pure_of ps) i
-  pure_false h =
-      record { within = long; before = before; fails = λ d k. h (subst (λ f. PureHolds n f) (this_pure d) k) }
-
-pub pures_true :
-    (n : Names) (ps : List Pure) (i : ℕ) → length ps ≤ i → AllByRecursion (PureHolds n) (take i (map pure_of ps)) →
-    AllByRecursion (PureHolds n) (map pure_of ps)
-pures_true n ps i h all = rw (take_all i (map pure_of ps) (omega (arith, length-map ps pure_of))) at all
+  pub false_found : (ps : List Pure) (r : Option ℕ) → PositionFalse ps r → FalseFound n (map pure_of ps) r
+  false_found ps (Some i) (within, fails, before) =
+      record {
+        within = omega (arith, length-map ps pure_of);
+        before = first_hold ps i (λ k l m. before k l);
+        fails = λ d h. fails (subst (PureHolds n) (get_or-map pure_of ps i no_pure d within) h);
+      }
+  false_found ps None all =
+      rw (take_all (length ps) (map pure_of ps) (omega (arith, length-map ps pure_of))) at (first_hold ps (length ps) (λ k l m. all k m))
 
 module _ (n : Names) (m : Memory) (xs : List Atom) (i : ℕ) (e : Memory) (before : Deals n m (map atom_of xs) i e) where
   pub atom_taken :
       (f : Memory) → i < length xs → Takes (AtomHolds n (atom_of (get_or xs i no_atom))) e f → Deals n m (map atom_of xs) (i + 1) f
   atom_taken f within t =
       deals_more n m (map atom_of xs) i (atom_of (get_or xs i no_atom)) e (omega (arith, length-map xs atom_of)) (λ d. get_or-map atom_of xs i no_atom d within) before f t
+
+  pub atom_done :
+      (r : Result Unit Place) (f : Memory) → is_ok r ≡ true → i < length xs → AtomTaken n (atom_of (get_or xs i no_atom)) e f r →
+      Deals n m (map atom_of xs) (i + 1) f
+  atom_done (Ok u) f ok within t = atom_taken f within t
+  atom_done (Err b) f ok within t = absurd (cc)
 
   pub atom_stuck :
       (b : ℕ) → i < length xs → AtomStuck n (atom_of (get_or xs i no_atom)) e b → AtomsStuck n m (map atom_of xs) i b
@@ -64,12 +76,20 @@ module _ (n : Names) (m : Memory) (xs : List Atom) (i : ℕ) (e : Memory) (befor
       let same : i ≡ length (map atom_of xs) = h ∙ sym (length-map xs atom_of) in
       subst (λ k. Deals n m (map atom_of xs) k e) same before
 
+-- what a dealing of the memory m has left
+module _ (m : SoundMemory) (d : Dealing) (same : d.memory ≡ m) where
+  pub room_is : length d.marks.now ≡ length m.words.now / 2
+  room_is = d.room ∙ ap (λ x. length x.words.now / 2) same
+
+  pub rest_is : rest d ≡ rest_of m.words.now d.marks.now
+  rest_is = ap (λ x. rest_of x.words.now d.marks.now) same
+
 module _ (n : Names) (s : List ℕ) (ps : List Pure) (xs : List Atom) (is_sound : T (sound (memory_of s))) where
   pub fails_pure : (i : ℕ) → FirstFalse n (map pure_of ps) i → FailsFor n (memory_of s) (claim_from ps xs) (why.Pure i)
   fails_pure i f = record { fails = λ h. false_fails n (map pure_of ps) i f h.pures; why_true = f }
 
   module _ (true-pures : AllByRecursion (PureHolds n) (map pure_of ps)) where
-    pub fails_stuck :
+    fails_stuck :
         (i : ℕ) (b : Place) → AtomsStuck n (memory_of s) (map atom_of xs) i b.0 →
         FailsFor n (memory_of s) (claim_from ps xs) (why.Stuck i b)
     fails_stuck i b k =
@@ -77,6 +97,12 @@ module _ (n : Names) (s : List ℕ) (ps : List Pure) (xs : List Atom) (is_sound 
           fails = λ h. stuck_fails n (memory_of s) (map atom_of xs) i b.0 is_sound k h.atoms;
           why_true = (true-pures, k);
         }
+
+    pub deal_fails :
+        (e : Memory) (r : Why) → DealtOut n (memory_of s) (map atom_of xs) e (Err r) → FailsFor n (memory_of s) (claim_from ps xs) r
+    deal_fails e (why.Stuck i b) k = fails_stuck i b k
+    deal_fails e (why.Pure i) k = absurd k
+    deal_fails e (why.LeftOver j) k = absurd k
 
     module _ (w : List ℕ) (room : length w ≡ length s / 2) (d : Deals n (memory_of s) (map atom_of xs) (length (map atom_of xs)) (rest_of s w)) where
       all_dealt : Dealt n (map atom_of xs) d.used

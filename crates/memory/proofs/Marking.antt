@@ -3,14 +3,13 @@
 -- length_memory, memory_at: how many cells words are, and which; memory_words_of and words_memory: words and memories tell each other.
 -- sound_rest: what is left of a sound memory is sound.
 -- mark_out: marking a cell takes it out of the unmarked ones; unmarked_clear: with no marks all cells are left.
--- absent_unmarked, none-unmarked: what is left has no cell at a place, or none at all.
--- found_some and found_none: what a search for the cell at a place finds.
-use Rattle.std.proofs.Common.{◌≡◌, ℕ, zero, suc, ◌+◌, ◌*◌, ◌/◌, ◌%◌, ◌<◌, false, T, eqb, List, [], ◌∷◌, length, get_or, set, Some, sym, refl, ap, ◌∙◌, arith}
-use Rattle.std.proofs.lemmas.Bool.{or_from, ne_eqb}
+-- none-unmarked: with all cells marked nothing is left.
+-- step_absent, step_taken and step_out: the ways of taking the cell at a place.
+use Rattle.std.proofs.Common.{◌≡◌, ℕ, zero, suc, ◌+◌, ◌*◌, ◌/◌, ◌%◌, ◌<◌, false, true, T, eqb, List, [], ◌∷◌, length, get_or, set, replicate, sym, refl, ap, ◌∙◌, arith}
+use Rattle.std.proofs.lemmas.Bool.{both_ways, or_from, or_right, ne_eqb}
 use Rattle.claims.specs.Memory.{Cell, Memory, here, sound, Parts, none_p, left_p, right_p}
 use Rattle.memory.specs.Marks.{memory_words, memory_of, unmarked, rest_of}
-use Rattle.memory.specs.Walks.{Found}
-use Rattle.memory.proofs.Parts.{none_parts, sound_right}
+use Rattle.memory.proofs.Parts.{none_parts, here_neither, here_first, sound_first, sound_right}
 
 pub length_memory : (s : List ℕ) → length (memory_of s) ≡ length s / 2
 length_memory [] = refl
@@ -66,12 +65,10 @@ unmarked_part (suc x ∷ w) (c ∷ m) = let (used, t) = unmarked_part w m in (c 
 pub sound_rest : (s w : List ℕ) → T (sound (memory_of s)) → T (sound (rest_of s w))
 sound_rest s w h = sound_right (unmarked_part w (memory_of s)).1 h
 
-pub unmarked_clear : {A : Type 0} (w : List ℕ) (m : List A) → ((i : ℕ) → i < length w → get_or w i 0 ≡ 0) → unmarked w m ≡ m
-unmarked_clear [] m h = refl
-unmarked_clear (zero ∷ w) [] h = refl
-unmarked_clear (suc x ∷ w) [] h = refl
-unmarked_clear (zero ∷ w) (c ∷ m) h = ap (λ l. c ∷ l) (unmarked_clear w m (λ i l. h (suc i) (omega arith)))
-unmarked_clear (suc x ∷ w) (c ∷ m) h = absurd (omega (arith, h 0 (omega arith)))
+pub unmarked_clear : {A : Type 0} (k : ℕ) (m : List A) → unmarked (replicate k 0) m ≡ m
+unmarked_clear zero m = refl
+unmarked_clear (suc k) [] = refl
+unmarked_clear (suc k) (c ∷ m) = ap (λ l. c ∷ l) (unmarked_clear k m)
 
 pub none-unmarked :
     {A : Type 0} (w : List ℕ) (m : List A) → length w ≡ length m → ((i : ℕ) → i < length w → get_or w i 0 ≡ 0 → ⊥) → unmarked w m ≡ []
@@ -82,27 +79,36 @@ none-unmarked (suc x ∷ w) [] e h = refl
 none-unmarked (zero ∷ w) (c ∷ m) e h = absurd (h 0 (omega arith) refl)
 none-unmarked (suc x ∷ w) (c ∷ m) e h = none-unmarked w m (omega arith) (λ i l. h (suc i) (omega arith))
 
-pub absent_unmarked :
-    (w : List ℕ) (m : Memory) (p : ℕ) (d : Cell ℕ) → length w ≡ length m →
-    ((i : ℕ) → i < length w → get_or w i 0 ≡ 0 → (get_or m i d).place ≡ p → ⊥) → here p (unmarked w m) ≡ false
-absent_unmarked [] [] p d e h = refl
-absent_unmarked [] (c ∷ m) p d e h = absurd (omega arith)
-absent_unmarked (zero ∷ w) [] p d e h = refl
-absent_unmarked (suc x ∷ w) [] p d e h = refl
-absent_unmarked (zero ∷ w) (c ∷ m) p d e h =
-    or_from (eqb c.place p) (here p (unmarked w m)) (ne_eqb c.place p (h 0 (omega arith) refl))
-    (absent_unmarked w m p d (omega arith) (λ i l. h (suc i) (omega arith)))
-absent_unmarked (suc x ∷ w) (c ∷ m) p d e h = absent_unmarked w m p d (omega arith) (λ i l. h (suc i) (omega arith))
+-- where a sound memory has a marked cell, nothing is left
+pub absent_marked :
+    (w : List ℕ) (m : Memory) (i : ℕ) (c : Cell ℕ) → T (sound m) → i < length m → (get_or w i 0 ≡ 0 → ⊥) →
+    ((d : Cell ℕ) → get_or m i d ≡ c) → here c.place (unmarked w m) ≡ false
+absent_marked [] m i c s h ne e = absurd (ne refl)
+absent_marked (x ∷ w) [] i c s h ne e = absurd (omega arith)
+absent_marked (zero ∷ w) (a ∷ m) zero c s h ne e = absurd (ne refl)
+absent_marked (suc x ∷ w) (a ∷ m) zero c s h ne e =
+    rw (← e a) (here_neither (unmarked_part w m).1 a.place (sound_first a m s).alone).1
+absent_marked (suc x ∷ w) (a ∷ m) (suc i) c s h ne e = absent_marked w m i c (sound_first a m s).others (omega arith) ne e
+absent_marked (zero ∷ w) (a ∷ m) (suc i) c s h ne e =
+    let f = sound_first a m s in
+    let elsewhere : a.place ≡ c.place → ⊥ = λ same. both_ways (here c.place m) (rw same at f.alone) (here_at m i c (omega arith) e) in
+    or_from (eqb a.place c.place) (here c.place (unmarked w m)) (ne_eqb a.place c.place elsewhere)
+    (absent_marked w m i c f.others (omega arith) ne e)
+  where
+    here_at : (m : Memory) (i : ℕ) (c : Cell ℕ) → i < length m → ((d : Cell ℕ) → get_or m i d ≡ c) → here c.place m ≡ true
+    here_at [] i c h e = absurd (omega arith)
+    here_at (a ∷ m) zero c h e = ap (λ b. here b.place (a ∷ m)) (sym (e a)) ∙ here_first a m
+    here_at (a ∷ m) (suc i) c h e = or_right (eqb a.place c.place) (here c.place m) (here_at m i c (omega arith) e)
 
-module _ (s w : List ℕ) (p : ℕ) (room : length w ≡ length s / 2) where
-  pub found_some : (i : ℕ) → i < length w → get_or w i 0 ≡ 0 → get_or s (2 * i) 0 ≡ p → Found s w p (Some i)
-  found_some i h e at_p =
-      let cell-is = memory_at s i nowhere (omega arith) in
-      let out = mark_out w (memory_of s) i nowhere (omega (arith, length_memory s)) h e in
-      (h, rw (← at_p, ← cell-is) out)
+module _ (s w : List ℕ) (p : ℕ) where
+  pub step_absent : here p (memory_of s) ≡ false → here p (rest_of s w) ≡ false
+  step_absent h = (here_neither (unmarked_part w (memory_of s)).1 p h).1
 
-  pub found_none :
-      ((i : ℕ) → i < length w → get_or w i 0 ≡ 0 → get_or s (2 * i) 0 ≡ p → ⊥) → here p (rest_of s w) ≡ false
-  found_none h =
-      absent_unmarked w (memory_of s) p nowhere (omega (arith, length_memory s))
-      (λ i l e at_p. h i l e (sym (ap (λ c. c.place) (memory_at s i nowhere (omega arith))) ∙ at_p))
+  module _ (i q : ℕ) (within : i < length (memory_of s)) (is : (d : Cell ℕ) → get_or (memory_of s) i d ≡ record { place = p; holds = q }) where
+    pub step_taken : T (sound (memory_of s)) → (get_or w i 0 ≡ 0 → ⊥) → here p (rest_of s w) ≡ false
+    step_taken sound ne = absent_marked w (memory_of s) i (record { place = p; holds = q }) sound within ne is
+
+    pub step_out : length w ≡ length s / 2 → get_or w i 0 ≡ 0 → Parts (record { place = p; holds = q } ∷ []) (rest_of s (set w i 1)) (rest_of s w)
+    step_out room e =
+        let out = mark_out w (memory_of s) i nowhere within (omega (arith, length_memory s)) e in
+        rw (is nowhere) at out

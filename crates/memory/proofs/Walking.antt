@@ -3,14 +3,14 @@
 -- walked_start, walked_step, walked_end and walked_stuck: the ways of a loop that looks for a row.
 -- walk_row: a walk that doesn't come back to where it was is a row.
 -- cell_found, cell_absent and cell_elsewhere: the ways of a search for a cell.
--- cell_taken, cell_not_taken and row_taken: and what they say of an atom.
-use Rattle.std.proofs.Common.{◌≡◌, ℕ, ◌<◌, true, false, T, eqb, ◌↔◌, [], ◌∷◌, length, Ok, Err, Result, refl, ap, subst, arith}
+-- cell_taken and row_taken: and what they say of an atom.
+use Rattle.std.proofs.Common.{◌≡◌, ℕ, ◌<◌, true, false, T, eqb, ◌↔◌, [], ◌∷◌, length, Ok, Err, Result, refl, ap, ◌∙◌, subst, arith}
 use Rattle.std.proofs.lemmas.Bool.{both_ways, or_from, ne_eqb}
 use Rattle.claims.specs.Claims.{Atom, cell, row}
-use Rattle.claims.specs.Memory.{Names, at, Memory, here, sound, Parts, IsRow, no_cells, some_cells, AtomHolds}
+use Rattle.claims.specs.Memory.{Names, at, Memory, here, sound, Parts, IsRow, no_cells, some_cells}
 use Rattle.claims.specs.declared.names.Place.{Place}
 use Rattle.memory.specs.Taking.{Takes}
-use Rattle.memory.specs.Walks.{Walk, no_step, step, RowStuck, IsCell, AtomStuck, RowTaken, AtomTaken}
+use Rattle.memory.specs.Walks.{Walk, no_step, step, RowStuck, IsCell, CellTaken, RowTaken, AtomTaken}
 use Rattle.memory.proofs.Parts.{parts_comm, parts_assoc, parts_regroup, parts_none, parts_length, none_parts, all_parts, absent_whole, here-left, here_neither, here_out, one_out, sound_nowhere, sound-left}
 use Rattle.memory.proofs.Rows.{row_start, takes_row_none, takes_row_cell}
 
@@ -102,12 +102,10 @@ module _ (n : Names) (a : Atom) (x y p q : ℕ) (m e : Memory) (from : p ≡ at 
   at_places : (P : ℕ → ℕ → Type 0) → P p q → P (at n x) (at n y)
   at_places P t = subst (λ v. P (at n x) v) to (subst (λ u. P u q) from t)
 
-  pub cell_taken : a ≡ cell x y → Takes (IsCell p q) m e → Takes (AtomHolds n a) m e
-  cell_taken is t = rw is (at_places (λ u v. Takes (IsCell u v) m e) t)
-
-  pub cell_not_taken : a ≡ cell x y → ((f : Memory) → Takes (IsCell p q) m f → ⊥) → AtomStuck n a m p
-  cell_not_taken is h =
-      rw is (record { none = at_places (λ u v. (f : Memory) → Takes (IsCell u v) m f → ⊥) h; stuck = from })
+  pub cell_taken : a ≡ cell x y → (r : Result Unit Place) → CellTaken p q m e r → AtomTaken n a m e r
+  cell_taken is (Ok u) t = rw is (at_places (λ u v. Takes (IsCell u v) m e) t)
+  cell_taken is (Err b) (none, start) =
+      rw is (record { none = at_places (λ u v. (f : Memory) → Takes (IsCell u v) m f → ⊥) none; stuck = start ∙ from })
 
   pub row_taken : a ≡ row x y → (r : Result Unit Place) → RowTaken p q m e r → AtomTaken n a m e r
   row_taken is (Ok u) t = rw is (at_places (λ u v. Takes (IsRow u v) m e) t)

@@ -1,5 +1,5 @@
 -- What the checking call promises.
-use Rattle.std.specs.Prelude.{◌≡◌, ℕ, ◌/◌, ◌<◌, ◌≤◌, T, List, ◌∷◌, length, Some, None, Option}
+use Rattle.std.specs.Prelude.{◌≡◌, ℕ, ◌/◌, ◌<◌, ◌≤◌, T, List, ◌∷◌, length, Some, None, Ok, Err, Option, Result}
 use Rattle.claims.specs.Claims.{Claim}
 use Rattle.claims.specs.Words.{claim_words, Fits}
 use Rattle.claims.specs.Memory.{Memory, sound, Says}
@@ -8,8 +8,9 @@ use Rattle.claims.specs.declared.decoded.Decoded.{Decoded}
 use Rattle.memory.specs.Marks.{memory_words}
 use Rattle.memory.specs.Judging.{FailsFor}
 use Rattle.memory.specs.Laws.{Precise, RowsJoin}
-use Rattle.memory.specs.declared.checks.Checked.{Checked}
-use Rattle.memory.specs.declared.checks.Checked.TheVariants.{Holds, Fails, NoClaim, NoMemory, TooLarge, Few}
+use Rattle.memory.specs.declared.checks.Refusal.{Refusal}
+use Rattle.memory.specs.declared.checks.Refusal.TheVariants.{NoClaim, NoMemory, TooLarge, Few}
+use Rattle.memory.specs.declared.deals.Why.{Why}
 
 -- the words s are how many names there are, k, and the claim c over them
 pub record IsClaim (s : List ℕ) (k : ℕ) (c : Claim) : Type 0 where
@@ -63,17 +64,21 @@ pub record Asked (s n t w : List ℕ) (P : Memory → Claim → Type 0) : Type 0
   pub asks : Asks s n t names claim memory
   pub so : P memory claim
 
--- what each answer says: s are the words of the claim, n of the names, t of the memory, and w is lent
-abbrev pub Answer : List ℕ → List ℕ → List ℕ → List ℕ → Checked → Type 0
-Answer s n t w Few = length w < length t / 2
-Answer s n t w TooLarge = IsTooLarge t w
-Answer s n t w NoClaim = IsNoClaim s t w
-Answer s n t w NoMemory = IsNoMemory s n t w
-Answer s n t w Holds = Asked s n t w (λ m c. Says n m c)
-Answer s n t w (Fails why) = Asked s n t w (λ m c. FailsFor n m c why)
+-- what each refusal says: s are the words of the claim, n of the names, t of the memory, and w is lent
+abbrev pub Refused : List ℕ → List ℕ → List ℕ → List ℕ → Refusal → Type 0
+Refused s n t w Few = length w < length t / 2
+Refused s n t w TooLarge = IsTooLarge t w
+Refused s n t w NoClaim = IsNoClaim s t w
+Refused s n t w NoMemory = IsNoMemory s n t w
+
+-- what each answer says
+abbrev pub Answer : List ℕ → List ℕ → List ℕ → List ℕ → Result (Result Unit Why) Refusal → Type 0
+Answer s n t w (Ok (Ok _)) = Asked s n t w (λ m c. Says n m c)
+Answer s n t w (Ok (Err why)) = Asked s n t w (λ m c. FailsFor n m c why)
+Answer s n t w (Err refusal) = Refused s n t w refusal
 
 -- what `check` answers, that it leaves the words as they were, that there is no other answer, and two theorems that it rests on
-pub record CheckedPost (s n t w w' : List ℕ) (r : Checked) : Type 0 where
+pub record CheckedPost (s n t w w' : List ℕ) (r : Result (Result Unit Why) Refusal) : Type 0 where
   pub answer : Answer s n t w r
   pub unchanged : w' ≡ w
   pub one_asked : OneAsked

@@ -6,7 +6,6 @@ use Rattle.claims.specs.Memory.{Names, Cell, Memory, Parts, Dealt, PureHolds, Sa
 use Rattle.claims.specs.Meaning.{pure_of, atom_of}
 use Rattle.claims.specs.declared.parts.Pure.{Pure as Pure-value}
 use Rattle.claims.specs.declared.parts.Atom.{Atom as Atom-value}
-use Rattle.claims.specs.declared.names.Place.{Place}
 use Rattle.memory.specs.Walks.{AtomStuck}
 use Rattle.memory.specs.declared.deals.Why.{Why}
 use Rattle.memory.specs.declared.deals.Why.TheVariants.{Pure, Stuck, LeftOver}
@@ -68,9 +67,11 @@ pub record Deals (n : Names) (m : Memory) (xs : List claims.Atom) (i : ℕ) (e :
   pub dealt : Dealt n (take i xs) used
 
 -- all atoms are dealt out to a part of m, and leave e; or it got stuck
-abbrev pub DealtOut : Names → Memory → List claims.Atom → Memory → Result Unit (ℕ × Place) → Type 0
+abbrev pub DealtOut : Names → Memory → List claims.Atom → Memory → Result Unit Why → Type 0
 DealtOut n m xs e (Ok _) = Deals n m xs (length xs) e
-DealtOut n m xs e (Err s) = AtomsStuck n m xs s.0 s.1.0
+DealtOut n m xs e (Err (Stuck i p)) = AtomsStuck n m xs i p.0
+DealtOut n m xs e (Err (Pure _)) = ⊥
+DealtOut n m xs e (Err (LeftOver _)) = ⊥
 
 -- the first mark that is 0, or there is none
 abbrev pub Unmarked : List ℕ → Option ℕ → Type 0

@@ -4,6 +4,7 @@ pub mod Taking
 pub mod Owners
 -- memories as words, walks from cell to cell, why a claim fails, and what the checking call promises
 pub mod Marks
+pub mod Dealings
 pub mod Walks
 pub mod Judging
 pub mod Checking

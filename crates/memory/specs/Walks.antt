@@ -1,10 +1,9 @@
 -- Looking for a cell or a row among the cells of a memory, from cell to cell.
-use Rattle.std.specs.Prelude.{◌≡◌, ℕ, ◌+◌, ◌*◌, ◌<◌, Bool, true, false, List, [], ◌∷◌, length, Some, None, Ok, Err, Option, Result, ◌≢◌, slice_index, slice_set}
+use Rattle.std.specs.Prelude.{◌≡◌, ℕ, ◌<◌, false, [], ◌∷◌, length, Some, None, Ok, Err, Option, Result, ◌≢◌, slice_index_or}
 use Rattle.claims.specs.Claims.{Atom, cell, row}
-use Rattle.claims.specs.Memory.{Names, at, Memory, here, Parts, IsRow, AtomHolds}
+use Rattle.claims.specs.Memory.{Names, at, Cell, Memory, here, Parts, IsRow, AtomHolds}
 use Rattle.claims.specs.declared.names.Place.{Place}
 use Rattle.memory.specs.Taking.{Takes}
-use Rattle.memory.specs.Marks.{rest_of}
 
 -- these cells lead from p to q, each to the place of the next; unlike a row they may come back to where they were
 pub data Walk : ℕ → ℕ → Memory → Type 0 where
@@ -33,20 +32,24 @@ pub record AtomStuck (n : Names) (a : Atom) (m : Memory) (b : ℕ) : Type 0 wher
   pub none : (e : Memory) → Takes (AtomHolds n a) m e → ⊥
   pub stuck : StuckAt n a m b
 
--- The cell number i of the memory with the words s is not marked and is at p, and marking it takes it out; or no such cell is at p.
-abbrev pub Found : List ℕ → List ℕ → ℕ → Option ℕ → Type 0
-Found s w p (Some i) =
-    (i < length w) × Parts (record { place = p; holds = slice_index s (2 * i + 1) } ∷ []) (rest_of s (slice_set w i 1)) (rest_of s w)
-Found s w p None = here p (rest_of s w) ≡ false
+-- the cell with this number is at p and leads to this place; or no cell is at p
+abbrev pub CellAt : Memory → ℕ → Option (ℕ × Place) → Type 0
+CellAt m p (Some c) = (c.0 < length m) × ((d : Cell ℕ) → slice_index_or m c.0 d ≡ record { place = p; holds = c.1.0 })
+CellAt m p None = here p m ≡ false
+
+-- the cell at p is taken out of m and leaves e, and the answer is where it leads; or no cell is at p
+abbrev pub Stepped : ℕ → Memory → Memory → Option Place → Type 0
+Stepped p m e (Some q) = Parts (record { place = p; holds = q.0 } ∷ []) e m
+Stepped p m e None = here p m ≡ false
 
 -- just one cell, from p to q
 abbrev pub IsCell : ℕ → ℕ → Memory → Type 0
 IsCell p q m = (p ≢ 0) × (m ≡ record { place = p; holds = q } ∷ [])
 
--- that cell is taken out of m and leaves e; or it can't be
-abbrev pub CellTaken : ℕ → ℕ → Memory → Memory → Bool → Type 0
-CellTaken p q m e true = Takes (IsCell p q) m e
-CellTaken p q m e false = (f : Memory) → Takes (IsCell p q) m f → ⊥
+-- that cell is taken out of m and leaves e; or it can't be, and the answer is where it should begin
+abbrev pub CellTaken : ℕ → ℕ → Memory → Memory → Result Unit Place → Type 0
+CellTaken p q m e (Ok _) = Takes (IsCell p q) m e
+CellTaken p q m e (Err b) = ((f : Memory) → Takes (IsCell p q) m f → ⊥) × (b.0 ≡ p)
 
 -- the row is taken out of m and leaves e; or it can't be, and its search got stuck
 abbrev pub RowTaken : ℕ → ℕ → Memory → Memory → Result Unit Place → Type 0

@@ -6,10 +6,12 @@
 
 pub mod cells;
 pub mod checks;
+mod dealings;
 pub mod deals;
 #[cfg(test)]
 mod tests;
 pub mod walks;
 
-pub use checks::{Checked, check};
+pub use cells::SoundMemory;
+pub use checks::{Refusal, check};
 pub use deals::{Why, holds};

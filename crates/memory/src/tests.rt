@@ -2,7 +2,7 @@
 //
 // A claim is how many names, how many same and other, how many cells and rows, and then these: 0 same, 1 other,
 // 2 cell, 3 row, each with two names.
-use crate::checks::{Checked, check as check_claim};
+use crate::checks::{Refusal, check as check_claim};
 use crate::deals::Why;
 use claims::Place;
 use std::process::Abort;
@@ -13,7 +13,7 @@ fn answers(
     claim: &[u32],
     names: &[u32],
     memory: &[u32],
-    answer: Checked,
+    answer: Result<Result<(), Why>, Refusal>,
     what: &str,
 ) {
     let mut work = [1, 0, 7];
@@ -32,7 +32,7 @@ fn claims_that_hold(rt: HostRuntime) {
         &[1, 0, 0],
         &[0],
         &[],
-        Checked::Holds,
+        Ok(Ok(())),
         "an empty claim, an empty memory",
     );
     answers(
@@ -40,7 +40,7 @@ fn claims_that_hold(rt: HostRuntime) {
         &[1, 0, 1, 3, 0, 0],
         &[0],
         &[],
-        Checked::Holds,
+        Ok(Ok(())),
         "a row from nowhere to nowhere",
     );
     let twice = [4, 0, 2, 3, 1, 3, 3, 1, 2];
@@ -49,7 +49,7 @@ fn claims_that_hold(rt: HostRuntime) {
         &twice,
         &[0, 1, 2, 1],
         &[1, 2],
-        Checked::Holds,
+        Ok(Ok(())),
         "two rows from one name, one empty",
     );
     let third = [4, 2, 1, 0, 1, 3, 0, 2, 3, 3, 1, 2];
@@ -58,7 +58,7 @@ fn claims_that_hold(rt: HostRuntime) {
         &third,
         &[0, 7, 7, 7],
         &[],
-        Checked::Holds,
+        Ok(Ok(())),
         "the ends are the same as a third",
     );
     let row = [3, 0, 1, 3, 1, 2];
@@ -67,14 +67,14 @@ fn claims_that_hold(rt: HostRuntime) {
         &row,
         &[0, 1, 9],
         &[2, 9, 1, 2],
-        Checked::Holds,
+        Ok(Ok(())),
         "no cell is where the row ends",
     );
 }
 
 #[test]
 fn claims_that_fail(rt: HostRuntime) {
-    let to_a_place = Checked::Fails(Why::Stuck(0, Place(0)));
+    let to_a_place = Ok(Err(Why::Stuck(0, Place(0))));
     answers(
         &rt,
         &[2, 0, 1, 3, 0, 1],
@@ -83,7 +83,7 @@ fn claims_that_fail(rt: HostRuntime) {
         to_a_place,
         "a row from nowhere to a place",
     );
-    let round = Checked::Fails(Why::Stuck(0, Place(1)));
+    let round = Ok(Err(Why::Stuck(0, Place(1))));
     answers(
         &rt,
         &[3, 0, 1, 3, 1, 2],
@@ -92,7 +92,7 @@ fn claims_that_fail(rt: HostRuntime) {
         round,
         "a row round a cell that leads to itself",
     );
-    let again = Checked::Fails(Why::Stuck(1, Place(1)));
+    let again = Ok(Err(Why::Stuck(1, Place(1))));
     answers(
         &rt,
         &[3, 0, 2, 2, 1, 2, 2, 1, 2],
@@ -101,7 +101,7 @@ fn claims_that_fail(rt: HostRuntime) {
         again,
         "one cell for two",
     );
-    let past = Checked::Fails(Why::LeftOver(1));
+    let past = Ok(Err(Why::LeftOver(1)));
     answers(
         &rt,
         &[3, 0, 1, 3, 1, 2],
@@ -110,9 +110,9 @@ fn claims_that_fail(rt: HostRuntime) {
         past,
         "a cell behind the end of the row",
     );
-    let left = Checked::Fails(Why::LeftOver(0));
+    let left = Ok(Err(Why::LeftOver(0)));
     answers(&rt, &[2, 0, 0], &[0, 1], &[1, 2], left, "a cell left over");
-    let pure = Checked::Fails(Why::Pure(1));
+    let pure = Ok(Err(Why::Pure(1)));
     answers(
         &rt,
         &[2, 2, 0, 1, 0, 1, 0, 0, 1],
@@ -130,7 +130,7 @@ fn words_that_ask_nothing(rt: HostRuntime) {
         &[1, 0, 0],
         &[0],
         &[1, 2, 1, 3],
-        Checked::NoMemory,
+        Err(Refusal::NoMemory),
         "one place twice",
     );
     answers(
@@ -138,7 +138,7 @@ fn words_that_ask_nothing(rt: HostRuntime) {
         &[1, 0, 0],
         &[0],
         &[0, 2],
-        Checked::NoMemory,
+        Err(Refusal::NoMemory),
         "a cell nowhere",
     );
     answers(
@@ -146,7 +146,7 @@ fn words_that_ask_nothing(rt: HostRuntime) {
         &[1, 0, 0],
         &[0],
         &[1, 2, 3],
-        Checked::NoMemory,
+        Err(Refusal::NoMemory),
         "half a cell",
     );
     answers(
@@ -154,7 +154,7 @@ fn words_that_ask_nothing(rt: HostRuntime) {
         &[2, 0, 0],
         &[0],
         &[],
-        Checked::NoMemory,
+        Err(Refusal::NoMemory),
         "a name without a word",
     );
     answers(
@@ -162,16 +162,16 @@ fn words_that_ask_nothing(rt: HostRuntime) {
         &[1, 0, 0, 0],
         &[0],
         &[],
-        Checked::NoClaim,
+        Err(Refusal::NoClaim),
         "a word too many",
     );
-    answers(&rt, &[0, 0, 0], &[], &[], Checked::NoClaim, "no names");
+    answers(&rt, &[0, 0, 0], &[], &[], Err(Refusal::NoClaim), "no names");
     answers(
         &rt,
         &[],
         &[],
         &[1, 2, 3, 4, 5, 6, 7, 8],
-        Checked::Few,
+        Err(Refusal::Few),
         "four cells, three words lent",
     );
 }

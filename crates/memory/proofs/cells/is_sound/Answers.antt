@@ -1,24 +1,23 @@
-use Rattle.std.proofs.Common.{refl, arith}
-use Rattle.memory.proofs.Placing.{sound_none, sound_more, unsound_nowhere, unsound_twice}
+use Rattle.std.proofs.Common.{sym, ap, ◌∙◌}
+use Rattle.claims.specs.Memory.{sound}
+use Rattle.memory.proofs.Placing.{cells_of, cells_whole, unsound_nowhere, unsound_twice, sound_more}
 use Rattle.memory.proofs.cells.is_sound.Goals as goal
-use Rattle.memory.proofs.cells.is_sound.Goals.{then-place-eq0-via-then-place-eq0, then-place-eq0-via-else-place-eq0+then-has}
+use Rattle.memory.proofs.cells.is_sound.Goals.{then-place-eq0-via-then-place-eq0, then-place-eq0-via-else-place-eq0+then-is_some}
 
-pub loop-i-init : goal.loop-i-init
-loop-i-init c = refl
+pub cells-init : goal.cells-init
+cells-init c = sym (ap sound (ap cells_of c.as_chunks.ensures.front ∙ cells_whole c.args.memory.now))
 
 pub returns-then-place-eq0 : goal.returns-then-place-eq0
 returns-then-place-eq0 c =
-    let s = c.args.memory.now in
-    elim c.then-place-eq0.branch [
-      | then-place-eq0-via-then-place-eq0 w ↦
-          unsound_nowhere s c.loop-i.i c.loop-i.invariant c.loop-i-test.true w.if-place-eq0.true
-      | then-place-eq0-via-else-place-eq0+then-has w ↦
-          unsound_twice s c.loop-i.i c.loop-i.invariant c.loop-i-test.true w.if-has.ensures
-    ]
+    let cs = c.cells.cells.now in
+    let some = c.in-len1-up.len_at_least in
+    sym (c.cells.invariant ∙ elim c.then-place-eq0.branch [
+      | then-place-eq0-via-then-place-eq0 w ↦ unsound_nowhere cs some w.if-place-eq0.true
+      | then-place-eq0-via-else-place-eq0+then-is_some w ↦ unsound_twice cs some w.first_at.result w.first_at.ensures (sym w.is_some.ensures ∙ w.if-is_some.true)
+    ])
 
-pub loop-i-preserved : goal.loop-i-preserved
-loop-i-preserved c =
-    sound_more c.args.memory.now c.loop-i.i c.loop-i.invariant c.loop-i-test.true c.if-place-eq0.false c.if-has.ensures
-
-pub returns : goal.returns
-returns c = sound_none c.args.memory.now c.loop-i.i c.loop-i.invariant (omega arith)
+pub cells-preserved : goal.cells-preserved
+cells-preserved c =
+    let cs = c.cells.cells.now in
+    let some = c.in-len1-up.len_at_least in
+    c.cells.invariant ∙ sound_more cs some c.first_at.result c.first_at.ensures c.if-place-eq0.false (sym c.is_some.ensures ∙ c.if-is_some.false)
