@@ -6,10 +6,10 @@ use Rattle.linked.specs.Propagating.{AssumedOne, Propagated}
 use Rattle.linked.specs.declared.known.Known.{Known}
 use Rattle.matching.specs.Rules.{Total}
 use Rattle.entails.specs.Reducing.{PartSettled}
-use Rattle.entails.specs.Telling.{ToldAgainst}
+use Rattle.entails.specs.Telling.{TrialAgainst}
 use Rattle.entails.specs.declared.goals.Goal.{Goal}
 use Rattle.matching.specs.declared.parts.Part.{Part}
-use Rattle.entails.specs.declared.told.Told.{Told}
+use Rattle.entails.specs.declared.stretches.Trial.{Trial}
 
 -- a name below m of which it isn't known whether it is the same as x; or of all it is known
 abbrev pub OpenWith : Known → ℕ → ℕ → Option ℕ → Type 0
@@ -38,7 +38,7 @@ pub record OnSide (k : Known) (p : Pure) (ls : List Atom) (r : Option Known) : T
   pub is_assumed : AssumedOne p k assumed
   pub then-drawn : ThenDrawn ls assumed r
 
--- the part is settled by the rules; or what is told is against the question
-abbrev pub Searched : Goal → Known → Part → Result Unit Told → Type 0
+-- the part is settled by the rules; or a trial is against the question
+abbrev pub Searched : Goal → Known → Part → Result Unit Trial → Type 0
 Searched g k p (Ok u) = PartSettled g k p
-Searched g k p (Err t) = ToldAgainst g t
+Searched g k p (Err t) = TrialAgainst g t

@@ -7,6 +7,7 @@ use Rattle.memory.specs.Marks.{memory_of}
 use Rattle.models.specs.Generic.{generic, stretched}
 use Rattle.models.specs.Follows.{Against, enough}
 use Rattle.entails.specs.declared.stretches.Stretch.{Stretch}
+use Rattle.entails.specs.declared.stretches.Trial.{Trial}
 use Rattle.entails.specs.declared.told.Told.{Told}
 use Rattle.entails.specs.declared.goals.Goal.{Goal}
 
@@ -49,7 +50,12 @@ abbrev pub tried : Names → List claims.Atom → Option Stretch → Memory
 tried n cs None = generic n cs
 tried n cs (Some s) = stretched n cs s.row s.through
 
--- this memory isn't against it; or what is told is
-abbrev pub TriedOne : Goal → Names → Memory → Result Unit Told → Type 0
+-- the names and the memory of a trial are against it
+abbrev pub TrialAgainst : Goal → Trial → Type 0
+TrialAgainst g t =
+    Against g.names (first_of g) (second_of g) (take g.names t.names) (tried t.names (first_of g).atoms t.stretch)
+
+-- this memory isn't against it; or a trial is
+abbrev pub TriedOne : Goal → Names → Memory → Result Unit Trial → Type 0
 TriedOne g n m (Ok u) = NotAgainst g n m
-TriedOne g n m (Err t) = ToldAgainst g t
+TriedOne g n m (Err t) = TrialAgainst g t

@@ -1,12 +1,11 @@
 // Exact where all is known of the names: it follows, or one of few memories is against it.
 ghost use Rattle.std.specs.Prelude.{◌+◌, IfErr, IfOk};
-ghost use Rattle.entails.specs.Telling.{ToldAgainst};
+ghost use Rattle.entails.specs.Telling.{TrialAgainst};
 ghost use Rattle.entails.specs.Trying.{StretchesTried, Exactly};
 
 use crate::goals::Goal;
-use crate::stretches::Stretch;
+use crate::stretches::{Stretch, Trial};
 use crate::telling::places;
-use crate::told::Told;
 use linked::known::Known;
 
 impl Goal {
@@ -16,9 +15,9 @@ impl Goal {
         names: &[u32; 64],
         row: usize,
         marks: &mut [u32; 128],
-    ) -> Result<(), Told>
+    ) -> Result<(), Trial>
         ensures tried { IfOk result (λ _. StretchesTried self.now names.now row (self.now.names + 1)) }
-        ensures against { IfErr result (ToldAgainst self.now) }
+        ensures against { IfErr result (TrialAgainst self.now) }
     {
         for through in 1..u32::from(self.names) + 1 {
             self.try_one(names, Some(Stretch { row, through }), marks)?;
@@ -28,7 +27,7 @@ impl Goal {
 
     // Tries all memories with each name at the number of the one that stands for it. If none is against it, it follows for
     // all names of that pattern.
-    pub fn try_all(&self, known: &Known, marks: &mut [u32; 128]) -> Result<(), Told>
+    pub fn try_all(&self, known: &Known, marks: &mut [u32; 128]) -> Result<(), Trial>
         ensures { Exactly self.now known.now result }
     {
         let names = places(known, self.names);

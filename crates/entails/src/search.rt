@@ -11,7 +11,7 @@ use crate::goals::Goal;
 use crate::recents::Recent;
 use crate::reducing::{Reduced, reduce};
 use crate::sides::side;
-use crate::told::Told;
+use crate::stretches::Trial;
 use crate::wishing::wish;
 use claims::{Name, Pure};
 use linked::known::Known;
@@ -25,7 +25,7 @@ impl Goal {
         mut part: Part,
         recent: &mut Recent,
         marks: &mut [u32; 128],
-    ) -> Result<(), Told>
+    ) -> Result<(), Trial>
         requires { PartOf self.now known part }
         ensures { Searched self.now known part result }
     {

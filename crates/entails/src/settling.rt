@@ -35,6 +35,6 @@ impl Goal {
             return Ok(());
         };
         self.search(drawn, part, &mut Recent::new(), marks)
-            .map_err(|told| self.shrink(told, marks))
+            .map_err(|trial| self.shrink(&trial, marks))
     }
 }

@@ -1,11 +1,10 @@
 // Memories that a failed match points at: the generic one, and one in which a row goes through a place.
 ghost use Rattle.std.specs.Prelude.{IfErr};
-ghost use Rattle.entails.specs.Telling.{ToldAgainst};
+ghost use Rattle.entails.specs.Telling.{TrialAgainst};
 
 use crate::goals::Goal;
-use crate::stretches::Stretch;
+use crate::stretches::{Stretch, Trial};
 use crate::telling::places;
-use crate::told::Told;
 use crate::wishes::Detour;
 use claims::Atom;
 use linked::forks::is_forkless;
@@ -41,8 +40,8 @@ impl Goal {
         known: &Known,
         detour: Option<Detour>,
         marks: &mut [u32; 128],
-    ) -> Result<(), Told>
-        ensures { IfErr result (ToldAgainst self.now) }
+    ) -> Result<(), Trial>
+        ensures { IfErr result (TrialAgainst self.now) }
     {
         if !is_forkless(self.first.atoms(), known) {
             return Ok(());

@@ -1,10 +1,12 @@
 // Making a told memory small, for people's sake: the ends of rows are tried as the same, as long as that leaves a memory
 // with fewer cells that is still against it. Of how small it gets nothing is promised.
 ghost use Rattle.std.specs.Prelude.{◌<◌, IfSome};
-ghost use Rattle.entails.specs.Telling.{ToldAgainst};
+ghost use Rattle.entails.specs.Telling.{ToldAgainst, TrialAgainst};
 
 use crate::goals::Goal;
+use crate::stretches::Trial;
 use crate::told::Told;
+use crate::trials::write;
 use crate::wishing::wish;
 use claims::Atom;
 use linked::known::Known;
@@ -56,6 +58,14 @@ fn full(atoms: &[Atom], known: &Known) -> usize {
 }
 
 impl Goal {
+    // What is told of a trial that is against it.
+    fn told(&self, trial: &Trial) -> Told
+        requires { TrialAgainst self.now trial.now }
+        ensures { ToldAgainst self.now result }
+    {
+        write(trial, self.first.atoms())
+    }
+
     // A memory with fewer cells, if one is found where this is known of names.
     fn smaller(&self, known: &Known, told: &Told, marks: &mut [u32; 128]) -> Option<Told>
         ensures { IfSome result (ToldAgainst self.now) }
@@ -63,6 +73,7 @@ impl Goal {
         let wish = wish(self, &self.whole(known), known);
         self.show(known, wish.detour, marks)
             .err()
+            .map(|trial| self.told(&trial))
             .filter(|trial| trial.count < told.count)
     }
 
@@ -97,11 +108,12 @@ impl Goal {
         trials
     }
 
-    // The told memory, made small.
-    pub fn shrink(&self, mut told: Told, marks: &mut [u32; 128]) -> Told
-        requires { ToldAgainst self.now told }
+    // What is told of a trial that is against it, made small.
+    pub fn shrink(&self, trial: &Trial, marks: &mut [u32; 128]) -> Told
+        requires { TrialAgainst self.now trial.now }
         ensures { ToldAgainst self.now result }
     {
+        let mut told = self.told(trial);
         let trials = self.round(16, TRIALS, &mut told, marks);
         let trials = self.round(4, trials, &mut told, marks);
         let _trials = self.round(1, trials, &mut told, marks);

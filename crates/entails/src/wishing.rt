@@ -2,20 +2,15 @@
 //
 // A match that fails says where: a same or other of the second claim that isn't known; a cell whose end isn't known to be
 // the one that is wanted; a row that may be empty or not; a row that might have the end of a wanted one inside.
-ghost use Rattle.std.specs.Prelude.{◌<◌, ◌≤◌, length};
+ghost use Rattle.std.specs.Prelude.{◌<◌, length};
 
 use crate::choosing::is_open_pair;
 use crate::goals::Goal;
 use crate::wishes::{Detour, Wish};
-use claims::{Atom, Name};
-use linked::atoms::Live;
+use claims::Atom;
 use linked::known::Known;
-use matching::dividing::append;
 use matching::parts::Part;
-use matching::steps::Next;
-use matching::used::Used;
-use matching::walking::next;
-use matching::ways::{leads, ways};
+use matching::rests::{DeadEnd, Rest};
 
 // The first same or other of the second claim of which it isn't known.
 fn pure_wish(goal: &Goal, known: &Known) -> Option<(u8, u8)> {
@@ -62,53 +57,33 @@ fn inside_wish(atoms: &[Atom], e: usize, t: u8) -> Wish
     }
 }
 
-// What is asked for where a wanted row to t is stuck at s.
-fn stuck_wish(live: &Live, own: usize, used: &Used, s: u8, t: u8) -> Wish
-    requires all { own ≤ live.now.count }
-    requires small { t < 64 }
-{
-    let one = ways(live, own, used, s) < 2;
+// What is asked for where a wanted row to t is stuck.
+fn stuck_wish(stuck: &DeadEnd, t: u8) -> Wish {
+    let rest = &stuck.rest;
+    let one = rest.ways(stuck.at) < 2;
     let mut fork = Wish::none();
-    for (e, atom) in live.atoms[0..own].iter().enumerate() {
-        if used.has(e) || atom.start().0 != s {
+    // one pass finds the first that leads on, or keeps the last that doesn't
+    for e in 0..rest.own {
+        if !rest.begins(e, stuck.at) {
             continue;
         }
-        if one || leads(live, own, used, e, t) {
-            return inside_wish(&live.atoms[0..live.count], e, t);
+        if one || rest.leads(e, t) {
+            return inside_wish(rest.live.as_slice(), e, t);
         }
-        fork = Wish::pair(s, atom.end().0);
+        fork = Wish::pair(stuck.at, rest.live.get(e).end().0);
     }
     fork
 }
 
-// What a wanted row from s to t asks for.
-fn row_wish(live: &Live, own: usize, known: &Known, s: u8, t: u8) -> Wish
-    requires all { own ≤ live.now.count }
-    requires small { t < 64 }
-{
-    let mut used = Used::new();
-    let mut at = s;
-    for _turn in 0..65u8 {
-        if at == t {
-            return Wish::none();
-        }
-        let Next::Over(e) = next(live, own, known, &used, at, t) else {
-            return stuck_wish(live, own, &used, at, t);
-        };
-        used.add(e);
-        at = live.get(e).end().0;
-    }
-    Wish::none()
-}
-
 // What a wanted atom asks for.
-fn atom_wish(live: &Live, own: usize, known: &Known, names: u8, atom: Atom) -> Wish
-    requires { own ≤ live.now.count }
-{
+fn atom_wish(rest: &Rest, names: u8, atom: Atom) -> Wish {
     match atom {
-        Atom::Cell(x, y) => cell_wish(&live.atoms[0..own], names, x.0, y.0),
-        Atom::Row(x, y) if y.0 < 64 => row_wish(live, own, known, x.0, y.0),
-        Atom::Row(_, _) => Wish::none(),
+        Atom::Cell(x, y) => cell_wish(&rest.live.as_slice()[..rest.own], names, x.0, y.0),
+        Atom::Row(_, y) if y.0 >= 64 => Wish::none(),
+        Atom::Row(x, y) => match rest.without_row(x.0, y.0) {
+            Ok(_) => Wish::none(),
+            Err(stuck) => stuck_wish(&stuck, y.0),
+        },
     }
 }
 
@@ -142,16 +117,14 @@ fn fork(atoms: &[Atom], known: &Known) -> Option<(u8, u8)> {
 }
 
 // What the wanted atoms ask for: of the pairs the first that isn't known, and the first row that might go through a place.
-fn atoms_wish(part: &Part, whole: &Live, known: &Known, names: u8) -> Wish
-    requires { part.now.own.count ≤ whole.now.count }
-{
+fn atoms_wish(rest: &Rest, wanted: &[Atom], names: u8) -> Wish {
     let mut best = Wish::none();
-    for atom in &part.wanted.atoms[0..part.wanted.count] {
-        let wish = atom_wish(whole, part.own.count, known, names, *atom);
+    for atom in wanted {
+        let wish = atom_wish(rest, names, *atom);
         best = Wish {
             pair: best
                 .pair
-                .or(wish.pair.filter(|pair| is_open_pair(known, *pair))),
+                .or(wish.pair.filter(|pair| is_open_pair(rest.known, *pair))),
             detour: best.detour.or(wish.detour),
         };
     }
@@ -163,12 +136,13 @@ pub fn wish(goal: &Goal, part: &Part, known: &Known) -> Wish {
     if let Some((x, y)) = pure_wish(goal, known) {
         return Wish::pair(x, y);
     }
-    let whole = append(&part.own, &part.others);
-    let wish = atoms_wish(part, &whole, known, goal.names);
+    let whole = part.whole();
+    let rest = Rest::new(&whole, part.own.count, known);
+    let wish = atoms_wish(&rest, part.wanted.as_slice(), goal.names);
     let pair = wish
         .pair
-        .or_else(|| left_over(&part.own.atoms[0..part.own.count], known))
-        .or_else(|| fork(&whole.atoms[0..whole.count], known));
+        .or_else(|| left_over(part.own.as_slice(), known))
+        .or_else(|| fork(whole.as_slice(), known));
     Wish {
         pair,
         detour: wish.detour,

@@ -46,20 +46,20 @@ module _ (g : Names) (xs : List Atom) (i : ℕ) (d : Atom) (s : Option Stretch) 
 
 pub loop-i-preserved : goal.loop-i-preserved
 loop-i-preserved c =
-    let g = c.args.names.now in
+    let g = c.args.trial.now.names in
     let xs = c.args.atoms.now in
     let i = c.loop-i.i-counter in
     let old = c.loop-i.told in
     let lt = c.loop-i-test.true in
-    let P : Told → Type 0 = Written g xs c.args.stretch (i + 1) in
+    let P : Told → Type 0 = Written g xs c.args.trial.now.stretch (i + 1) in
     elim c.match-filter.branch [
       | in-Some w ↦
-          let is : c.args.stretch ≡ Some w.in-Some.stretch = search (rules, tests) in
+          let is : c.args.trial.now.stretch ≡ Some w.in-Some.stretch = search (rules, tests) in
           let at : w.in-Some.stretch.row ≡ i = search (rules, tests) in
-          subst P (sym w.told-is) (through g xs i _ c.args.stretch old w.link_through.new.self lt c.loop-i.invariant w.link_through.ensures.names w.link_through.ensures.count w.in-Some.stretch is at w.link_through.ensures.cells)
-      | in-None w ↦ subst P (sym w.told-is) (on g xs i _ c.args.stretch old w.link.new.self lt c.loop-i.invariant w.link.ensures.names w.link.ensures.count (λ t is e. search (rules, tests)) w.link.ensures.cells)
+          subst P (sym w.told-is) (through g xs i _ c.args.trial.now.stretch old w.link_through.new.self lt c.loop-i.invariant w.link_through.ensures.names w.link_through.ensures.count w.in-Some.stretch is at w.link_through.ensures.cells)
+      | in-None w ↦ subst P (sym w.told-is) (on g xs i _ c.args.trial.now.stretch old w.link.new.self lt c.loop-i.invariant w.link.ensures.names w.link.ensures.count (λ t is e. search (rules, tests)) w.link.ensures.cells)
     ]
 
 pub returns-clause-cells : goal.returns-clause-cells
 returns-clause-cells c =
-    c.loop-i.invariant.2 ∙ ap (λ u. tried c.args.names.now (map atom_of u) c.args.stretch) (take_all c.loop-i.i-counter c.args.atoms.now (omega arith))
+    c.loop-i.invariant.2 ∙ ap (λ u. tried c.args.trial.now.names (map atom_of u) c.args.trial.now.stretch) (take_all c.loop-i.i-counter c.args.atoms.now (omega arith))

@@ -9,7 +9,7 @@ use Rattle.entails.specs.Searching.{OnSide, Searched}
 use Rattle.entails.specs.Telling.{first_of, second_of}
 use Rattle.entails.specs.Trying.{Exactly}
 use Rattle.entails.specs.declared.goals.Goal.{Goal}
-use Rattle.entails.specs.declared.told.Told.{Told}
+use Rattle.entails.specs.declared.stretches.Trial.{Trial}
 use Rattle.entails.proofs.Reductions.{part_later, both_sides, side_back}
 use Rattle.entails.proofs.goals.Goal.+search.Goals as goal
 use Rattle.entails.proofs.goals.Goal.+search.Goals.{in-Some-side+in_ok-search-in-Some-side, in-None}
@@ -20,7 +20,7 @@ OneSide g k p x y = (r : Option Known) × OnSide k (same x y) (whole_of p) r × 
 
 -- all is known
 exact_searched :
-    (g : Goal) (k j : Known) (p q : Part) (r : Result Unit Told) → (PartSettled g j q → PartSettled g k p) → Total g.names j → Exactly g j r →
+    (g : Goal) (k j : Known) (p q : Part) (r : Result Unit Trial) → (PartSettled g j q → PartSettled g k p) → Total g.names j → Exactly g j r →
     Searched g k p r
 exact_searched g k j p q (Ok u) settles total exact = settles (pattern total exact.stand exact.follows)
 exact_searched g k j p q (Err t) settles total exact = exact

@@ -13,6 +13,7 @@ use Rattle.entails.specs.Reducing.{PartSettled}
 use Rattle.entails.specs.Searching.{Searched}
 use Rattle.entails.specs.Telling.{first_of, second_of, ToldAgainst}
 use Rattle.entails.specs.declared.goals.Goal.{Goal}
+use Rattle.entails.specs.declared.stretches.Trial.{Trial}
 use Rattle.entails.specs.declared.told.Told.{Told}
 use Rattle.entails.proofs.Reductions.{drawn_from, part_later}
 use Rattle.entails.proofs.Settled.{goal_settled}
@@ -21,9 +22,9 @@ use Rattle.entails.proofs.goals.Goal.settle.Goals.{After-whole-part}
 
 -- what the search told is made small
 made_small :
-    {Q : Told → Told → Type 0} (g : Goal) (k : Known) (p : Part) (s r : Result Unit Told) → Searched g k p s →
+    {Q : Trial → Told → Type 0} (g : Goal) (k : Known) (p : Part) (s : Result Unit Trial) (r : Result Unit Told) → Searched g k p s →
     MatchResult s (λ x. r ≡ Ok x) (λ e. IsErrAnd r (Q e)) → (PartSettled g k p → DoesFollow (first_of g) (second_of g)) →
-    ((e t : Told) → Q e t → ToldAgainst g t) → GoalSettled g r
+    ((e : Trial) (t : Told) → Q e t → ToldAgainst g t) → GoalSettled g r
 made_small g k p (Ok u) r searched is follows against = subst (GoalSettled g) (sym is) (follows searched)
 made_small g k p (Err e) (Ok u) searched is follows against = absurd is
 made_small g k p (Err e) (Err t) searched is follows against = against e t is

@@ -1,18 +1,19 @@
-use Rattle.std.proofs.Common.{◌≡◌, map, length, ap, ◌∙◌, subst₂, arith}
+use Rattle.std.proofs.Common.{map, take, ap, ◌∙◌, subst₂}
 use Rattle.claims.specs.Meaning.{atom_of}
-use Rattle.entails.specs.Telling.{told_memory, first_of, tried, NotAgainst}
-use Rattle.entails.proofs.Stretching.{tried-enough}
-use Rattle.entails.proofs.Against.{told_against}
+use Rattle.models.specs.Follows.{Against}
+use Rattle.entails.specs.Telling.{told_memory, first_of, second_of, tried, NotAgainst}
+use Rattle.entails.proofs.Against.{front_against}
 use Rattle.entails.proofs.goals.Goal.try_one.Goals as goal
-use Rattle.entails.proofs.goals.Goal.try_one.Goals.{After-write-told}
-
-written : (c : After-write-told) → told_memory c.write-told.result ≡ tried c.args.names.now (first_of c.args.self.now).atoms c.args.stretch
-written c = c.write-told.ensures.cells ∙ ap (λ u. tried c.args.names.now (map atom_of u) c.args.stretch) c.atoms.ensures
 
 pub returns-then-is_against : goal.returns-then-is_against
 returns-then-is_against c =
-    told_against c.args.self.now c.write-told.result c.if-is_against.ensures
-    (omega (arith, ap length (written (goal.at.returns-then-is_against c).After-write-told), tried-enough c.args.names.now (first_of c.args.self.now).atoms c.args.stretch))
+    let g = c.args.self.now in
+    let t = c.write-told.result in
+    subst₂ (λ n m. Against g.names (first_of g) (second_of g) (take g.names n) m) c.write-told.ensures.names
+    (c.write-told.ensures.cells ∙ ap (λ u. tried c.args.names.now (map atom_of u) c.args.stretch) c.atoms.ensures)
+    (front_against g t.names (told_memory t) t.all c.if-is_against.ensures)
 
 pub returns : goal.returns
-returns c = subst₂ (NotAgainst c.args.self.now) c.write-told.ensures.names (written (goal.at.returns c).After-write-told) c.if-is_against.ensures
+returns c =
+    subst₂ (NotAgainst c.args.self.now) c.write-told.ensures.names
+    (c.write-told.ensures.cells ∙ ap (λ u. tried c.args.names.now (map atom_of u) c.args.stretch) c.atoms.ensures) c.if-is_against.ensures
