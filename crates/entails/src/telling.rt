@@ -32,6 +32,7 @@ pub fn places(known: &Known, names: u8) -> [u32; 64]
     ensures { StandsAt names known.now result }
 {
     let mut places = [0; 64];
+    // an index, since with `array::from_fn` the check doesn't see what is said of each place
     for x in 0..64u8 {
         places[x as usize] = place_of(known, x, names);
     }

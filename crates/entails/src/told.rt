@@ -1,7 +1,8 @@
 // Names and a memory, as they are told where a claim doesn't follow.
 ghost use Rattle.std.specs.Prelude.{◌≡◌, ◌*◌, ◌≤◌, length, take};
 
-// What each name stands for, and place and where it leads for each cell.
+// What each name stands for, and place and where it leads for each cell. An array with a count, since nothing here has a heap,
+// and words, since they are handed out as such.
 #[derive(Clone, Copy)]
 pub struct Told {
     pub names: [u32; 64],
