@@ -4,16 +4,16 @@
 -- drawn_from, part_later: what is drawn from all atoms of a part, and the part where more is known.
 use Rattle.std.proofs.Common.{◌≡◌, ℕ, List, Some, None, Option, sym, refl, subst, subst₂, arith}
 use Rattle.std.specs.List.{AllByRecursion}
-use Rattle.claims.specs.Claims.{Atom}
+use Rattle.claims.specs.Claims.{Pure, same, other, Atom}
 use Rattle.claims.specs.Memory.{Names}
 use Rattle.linked.specs.Knowing.{Agrees, Joined, Parted}
 use Rattle.linked.specs.Living.{Lives}
-use Rattle.linked.specs.Propagating.{Propagated}
+use Rattle.linked.specs.Propagating.{AssumedOne, Propagated}
 use Rattle.linked.specs.declared.known.Known.{Known}
-use Rattle.matching.specs.Rules.{PureKnown, Closed, no_names, drawn, renamed, in_parts, nothing_left}
+use Rattle.matching.specs.Rules.{PureKnown, Closed, no_names, drawn, cases, renamed, in_parts, nothing_left}
 use Rattle.matching.specs.Parting.{whole_of, Regrouped, Renamed, Cancelled, Cut}
 use Rattle.entails.specs.Reducing.{PartSettled, PartOf, OneLeft, TwoLeft}
-use Rattle.entails.specs.Searching.{ThenDrawn, SameSide, OtherSide}
+use Rattle.entails.specs.Searching.{ThenDrawn, OnSide}
 use Rattle.entails.specs.Telling.{first_of, second_of}
 use Rattle.entails.specs.declared.goals.Goal.{Goal}
 use Rattle.matching.specs.declared.parts.Part.{Part}
@@ -75,8 +75,16 @@ drawn_from k cs ls None lives p = λ n m s d g. p n m s ((lives n g m).0 d) g
 pub part_later : (g : Goal) (k j : Known) (p : Part) → ((n : Names) → Agrees j n → Agrees k n) → PartOf g k p → PartOf g j p
 part_later g k j p back of n a m = of n (back n a) m
 
+as_joined : (k : Known) (x y : ℕ) (s : Option Known) → AssumedOne (same x y) k s → Joined k x y s
+as_joined k x y (Some j) h = h
+as_joined k x y None h = h
+
+as_parted : (k : Known) (x y : ℕ) (s : Option Known) → AssumedOne (other x y) k s → Parted k x y s
+as_parted k x y (Some j) h = h
+as_parted k x y None h = h
+
 -- The two sides of a pair: what is settled with what was drawn is settled without, and names that agree then agreed before.
-module _ (g : Goal) (k : Known) (p : Part) (x y : ℕ) (of : PartOf g k p) (os ws : List Atom) where
+module _ (g : Goal) (k : Known) (p : Part) (of : PartOf g k p) (os ws : List Atom) where
   without_drawn :
       (s r : Option Known) → ((j : Known) → s ≡ Some j → (n : Names) → Agrees j n → Agrees k n) → ThenDrawn (whole_of p) s r →
       Closed g.names (first_of g) (second_of g) r os ws → Closed g.names (first_of g) (second_of g) s os ws
@@ -84,35 +92,28 @@ module _ (g : Goal) (k : Known) (p : Part) (x y : ℕ) (of : PartOf g k p) (os w
   without_drawn (Some j) r earlier p' closed =
       drawn (drawn_from j (first_of g).atoms (whole_of p) r (part_later g k j p (earlier j refl) of) p') closed
 
-  pub same_closed :
-      (r : Option Known) → SameSide k x y (whole_of p) r → Closed g.names (first_of g) (second_of g) r os ws →
-      (s : Option Known) × Joined k x y s × Closed g.names (first_of g) (second_of g) s os ws
-  same_closed r side closed = (side.joined, side.is_joined, without_drawn side.joined r (go side.joined side.is_joined) side.then-drawn closed)
+  side_closed :
+      (q : Pure) (r : Option Known) → OnSide k q (whole_of p) r → Closed g.names (first_of g) (second_of g) r os ws →
+      (s : Option Known) × AssumedOne q k s × Closed g.names (first_of g) (second_of g) s os ws
+  side_closed q r side closed = (side.assumed, side.is_assumed, without_drawn side.assumed r (go side.assumed side.is_assumed) side.then-drawn closed)
     where
-      go : (s : Option Known) → Joined k x y s → (j : Known) → s ≡ Some j → (n : Names) → Agrees j n → Agrees k n
-      go (Some i) joined j e n a = ((joined n).0 (subst (λ q. Agrees q n) (sym (one_known i j e)) a)).0
-      go None joined j e n a = absurd (no_known j e)
+      go : (s : Option Known) → AssumedOne q k s → (j : Known) → s ≡ Some j → (n : Names) → Agrees j n → Agrees k n
+      go (Some i) assumed j e n a = ((assumed n).0 (subst (λ i. Agrees i n) (sym (one_known i j e)) a)).0
+      go None assumed j e n a = absurd (no_known j e)
 
-  pub other_closed :
-      (r : Option Known) → OtherSide k x y (whole_of p) r → Closed g.names (first_of g) (second_of g) r os ws →
-      (s : Option Known) × Parted k x y s × Closed g.names (first_of g) (second_of g) s os ws
-  other_closed r side closed = (side.parted, side.is_parted, without_drawn side.parted r (go side.parted side.is_parted) side.then-drawn closed)
-    where
-      go : (s : Option Known) → Parted k x y s → (j : Known) → s ≡ Some j → (n : Names) → Agrees j n → Agrees k n
-      go (Some i) parted j e n a = ((parted n).0 (subst (λ q. Agrees q n) (sym (one_known i j e)) a)).0
-      go None parted j e n a = absurd (no_known j e)
+  pub both_sides :
+      (x y : ℕ) (r q : Option Known) → OnSide k (same x y) (whole_of p) r → OnSide k (other x y) (whole_of p) q →
+      Closed g.names (first_of g) (second_of g) r os ws → Closed g.names (first_of g) (second_of g) q os ws →
+      Closed g.names (first_of g) (second_of g) (Some k) os ws
+  both_sides x y r q one two closed_r closed_q =
+      let a = side_closed (same x y) r one closed_r in
+      let b = side_closed (other x y) q two closed_q in
+      cases x y (as_joined k x y a.0 a.1) (as_parted k x y b.0 b.1) a.2 b.2
 
 -- names that agree with what is known on a side agreed before
-pub same_back : (k j : Known) (x y : ℕ) (ls : List Atom) → SameSide k x y ls (Some j) → (n : Names) → Agrees j n → Agrees k n
-same_back k j x y ls side n a = go side.joined side.is_joined side.then-drawn
+pub side_back : (k j : Known) (q : Pure) (ls : List Atom) → OnSide k q ls (Some j) → (n : Names) → Agrees j n → Agrees k n
+side_back k j q ls side n a = go side.assumed side.is_assumed side.then-drawn
   where
-    go : (s : Option Known) → Joined k x y s → ThenDrawn ls s (Some j) → Agrees k n
-    go (Some i) joined p = ((joined n).0 (p.back n a)).0
-    go None joined e = absurd (no_known j (sym e))
-
-pub other_back : (k j : Known) (x y : ℕ) (ls : List Atom) → OtherSide k x y ls (Some j) → (n : Names) → Agrees j n → Agrees k n
-other_back k j x y ls side n a = go side.parted side.is_parted side.then-drawn
-  where
-    go : (s : Option Known) → Parted k x y s → ThenDrawn ls s (Some j) → Agrees k n
-    go (Some i) parted p = ((parted n).0 (p.back n a)).0
-    go None parted e = absurd (no_known j (sym e))
+    go : (s : Option Known) → AssumedOne q k s → ThenDrawn ls s (Some j) → Agrees k n
+    go (Some i) assumed p = ((assumed n).0 (p.back n a)).0
+    go None assumed e = absurd (no_known j (sym e))

@@ -3,10 +3,11 @@
 -- goal_settled: what the search settles follows; answered: what is told is the answer.
 use Rattle.std.proofs.Common.{◌≡◌, ℕ, ◌≤◌, List, arith}
 use Rattle.std.specs.List.{AllByRecursion}
-use Rattle.claims.specs.Words.{Limits, Reads}
+use Rattle.claims.specs.Words.{Reads}
 use Rattle.claims.specs.Memory.{Names, PureHolds}
 use Rattle.claims.proofs.ClaimWords.{one_question}
 use Rattle.memory.proofs.Theorems.{precise, rows_join}
+use Rattle.models.specs.Follows.{DoesFollow}
 use Rattle.models.proofs.Small.{small_shows, one_of_two}
 use Rattle.models.proofs.Exact.{exact}
 use Rattle.linked.specs.Knowing.{Agrees}
@@ -14,25 +15,20 @@ use Rattle.linked.proofs.FirstNumbers.{generic_holds}
 use Rattle.linked.specs.declared.known.Known.{Known}
 use Rattle.entails.specs.Telling.{first_of, second_of, question_of}
 use Rattle.matching.specs.Rules.{renamed}
-use Rattle.entails.specs.Reducing.{Whole}
-use Rattle.entails.specs.Searching.{Searched}
+use Rattle.entails.specs.Reducing.{PartSettled, Whole}
 use Rattle.matching.specs.declared.parts.Part.{Part}
-use Rattle.entails.specs.Deciding.{GoalSettled, Written, RulesRight, Theorems, Answer, DecidedPost}
+use Rattle.entails.specs.Deciding.{Written, RulesRight, Theorems, Answer, DecidedPost}
 use Rattle.entails.specs.declared.goals.Goal.{Goal}
-use Rattle.entails.specs.declared.told.Told.{Told}
-use Rattle.entails.specs.declared.outcomes.Outcome.{Outcome}
-use Rattle.entails.specs.declared.outcomes.Outcome.TheVariants.{Settled, Refuted}
 use Rattle.entails.specs.declared.deciding.Decided.{Decided}
 use Rattle.entails.specs.declared.deciding.Decided.TheVariants.{Follows, Fails, OutFull, NoClaims, Few}
 use Rattle.entails.proofs.Bounds.{second_pures}
 use Rattle.matching.proofs.Rules.{all_settled}
 
 pub goal_settled :
-    (g : Goal) (k : Known) (p : Part) (t : Told) (r : Outcome) → Limits (question_of g) →
-    ((n : Names) → AllByRecursion (PureHolds n) (first_of g).pures → Agrees k n) → Whole g k p → Searched g k p t r → GoalSettled g t r
-goal_settled g k p t Settled limits all whole closed = λ n m s says.
-    all_settled g.names (first_of g) (second_of g) limits.few_names (second_pures g limits) k (renamed whole.own whole.wanted closed) n m s (all n says.pures) says
-goal_settled g k p t Refuted limits all whole against = against
+    (g : Goal) (k : Known) (p : Part) →
+    ((n : Names) → AllByRecursion (PureHolds n) (first_of g).pures → Agrees k n) → Whole g k p → PartSettled g k p → DoesFollow (first_of g) (second_of g)
+goal_settled g k p all whole closed n m s says =
+    all_settled g.names (first_of g) (second_of g) g.limits.few_names (second_pures g) k (renamed whole.own whole.wanted closed) n m s (all n says.pures) says
 
 -- what the rules settle follows
 rules_right : RulesRight

@@ -4,7 +4,6 @@
 use Rattle.std.proofs.Common.{◌≡◌, ℕ, ◌+◌, ◌*◌, List, ◌++◌, length, take, drop, sym, ap, ◌∙◌, arith, length-append}
 use Rattle.std.proofs.lemmas.List.{take_at, drop_at, length-take-le}
 use Rattle.std.proofs.lemmas.Slice.{drop-append-drop}
-use Rattle.claims.specs.Words.{Limits}
 use Rattle.memory.specs.Marks.{memory_words}
 use Rattle.memory.proofs.Marking.{words_memory}
 use Rattle.entails.specs.Telling.{told_memory, question_of, ToldAgainst}
@@ -40,14 +39,14 @@ module _ (a b o o1 o2 : List ℕ) (n k : ℕ) (la : length a ≡ n) (lb : length
 
 -- so what is told stands in out
 pub shown :
-    (g : Goal) (t : Told) (o o1 o2 : List ℕ) → Limits (question_of g) → ToldAgainst g t →
+    (g : Goal) (t : Told) (o o1 o2 : List ℕ) → ToldAgainst g t →
     o1 ≡ take 0 o ++ take g.names t.names ++ drop (0 + length (take g.names t.names)) o →
     o2 ≡ take g.names o1 ++ take (2 * t.count) t.cells ++ drop (g.names + length (take (2 * t.count) t.cells)) o1 →
     Shown (question_of g) o o2 t.count
-shown g t o o1 o2 limits against first second =
+shown g t o o1 o2 against first second =
     let a = take g.names t.names in
     let b = take (2 * t.count) t.cells in
-    let la = length-take-le g.names t.names (omega (arith, t.all, limits.few_names)) in
+    let la = length-take-le g.names t.names (omega (arith, t.all, g.limits.few_names)) in
     let lb = length-take-le (2 * t.count) t.cells (omega (arith, t.few, t.room)) in
     record {
       names = a;

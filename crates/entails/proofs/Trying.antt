@@ -6,45 +6,38 @@ use lib.ListN.{length-map}
 use Rattle.std.proofs.lemmas.List.{length-take-le}
 use Rattle.std.proofs.lemmas.Bool.{cases_eq}
 use Rattle.claims.specs.Meaning.{atom_of}
-use Rattle.claims.specs.Words.{Limits}
 use Rattle.claims.specs.Memory.{Names, Memory}
-use Rattle.models.specs.Generic.{stretched, Trial, plain, through}
+use Rattle.models.specs.Generic.{generic, stretched, Trial, plain, through}
 use Rattle.models.proofs.Tried.{tried}
 use Rattle.linked.specs.declared.known.Known.{Known}
 use Rattle.matching.specs.Rules.{StandsAt}
-use Rattle.entails.specs.Telling.{first_of, second_of, question_of, NotAgainst}
+use Rattle.entails.specs.Telling.{first_of, second_of, NotAgainst}
 use Rattle.entails.specs.Trying.{StretchesTried, FollowsSo}
 use Rattle.entails.specs.declared.goals.Goal.{Goal}
-use Rattle.entails.proofs.Stretching.{stretched_plain}
 
--- the memory at the place e, as it was tried with other words for the names and the place
 pub stretches_more :
-    (g : Goal) (n n' : Names) (i e e' : ℕ) → StretchesTried g n i e → n' ≡ n → e' ≡ e →
-    NotAgainst g n' (stretched n' (first_of g).atoms i e') → StretchesTried g n i (e + 1)
-stretches_more g n n' i e e' before en ee now-too t l1 l2 =
-    ⊎_elim
-    (λ same.
-    let at_Names = subst (λ u. NotAgainst g u (stretched u (first_of g).atoms i e')) en now-too in
-    subst (λ u. NotAgainst g n (stretched n (first_of g).atoms i u)) (ee ∙ sym same) at_Names)
-    (λ ne. before t l1 (omega arith)) (cases_eq t e)
+    (g : Goal) (n : Names) (i e : ℕ) → StretchesTried g n i e → NotAgainst g n (stretched n (first_of g).atoms i e) →
+    StretchesTried g n i (e + 1)
+stretches_more g n i e before now-too t l1 l2 =
+    ⊎_elim (λ same. subst (λ u. NotAgainst g n (stretched n (first_of g).atoms i u)) (sym same) now-too) (λ ne. before t l1 (omega arith))
+    (cases_eq t e)
 
 pub all_tried :
-    (g : Goal) (k : Known) (n : Names) → Limits (question_of g) → StandsAt g.names k n →
-    NotAgainst g n (stretched n (first_of g).atoms (length (first_of g).atoms) 0) →
+    (g : Goal) (k : Known) (n : Names) → StandsAt g.names k n → NotAgainst g n (generic n (first_of g).atoms) →
     ((i : ℕ) → i < length (first_of g).atoms → StretchesTried g n i (g.names + 1)) → FollowsSo g k
-all_tried g k n limits stand none each =
+all_tried g k n stand none each =
     record {
       names = n;
       stand = stand;
-      follows = tried g.names n (first_of g) (second_of g) limits.some_names stand.below limits.first_fits limits.second_fits (λ m t. go t);
+      follows = tried g.names n (first_of g) (second_of g) g.limits.some_names stand.below g.limits.first_fits g.limits.second_fits (λ m t. go t);
     }
   where
     go : {m : Memory} → Trial g.names n (first_of g).atoms m → NotAgainst g n m
-    go plain = subst (NotAgainst g n) (stretched_plain n (first_of g).atoms (length (first_of g).atoms) 0 (omega arith)) none
+    go plain = none
     go (through i t li l1 lt) = each i li t l1 (omega arith)
 
 -- how many atoms the first claim has
 pub atoms_count : (g : Goal) → length (first_of g).atoms ≡ g.first.shape.atoms
 atoms_count g =
     length-map (take g.first.shape.atoms g.first.atoms) atom_of ∙
-    length-take-le g.first.shape.atoms g.first.atoms (omega (arith, g.first_room, g.first.shape.few_atoms))
+    length-take-le g.first.shape.atoms g.first.atoms (omega (arith, g.first.atoms_room, g.first.shape.few_atoms))

@@ -1,5 +1,5 @@
 -- What the call that decides promises.
-use Rattle.std.specs.Prelude.{◌≡◌, ℕ, ◌+◌, ◌*◌, ◌<◌, ◌≤◌, T, ◌↔◌, List, ◌++◌, length, take, drop, Some, None, Option}
+use Rattle.std.specs.Prelude.{◌≡◌, ℕ, ◌+◌, ◌*◌, ◌<◌, ◌≤◌, T, ◌↔◌, List, ◌++◌, length, take, drop, Some, None, Ok, Err, Option, Result}
 use Rattle.std.specs.List.{AllByRecursion}
 use Rattle.claims.specs.Claims as claims
 use Rattle.claims.specs.Words.{Reads, OneQuestion, PureBelow}
@@ -14,8 +14,6 @@ use Rattle.matching.specs.Rules.{Closed}
 use Rattle.entails.specs.Telling.{first_of, second_of, question_of, ToldAgainst}
 use Rattle.entails.specs.declared.goals.Goal.{Goal}
 use Rattle.entails.specs.declared.told.Told.{Told}
-use Rattle.entails.specs.declared.outcomes.Outcome.{Outcome}
-use Rattle.entails.specs.declared.outcomes.Outcome.TheVariants.{Settled, Refuted}
 use Rattle.entails.specs.declared.deciding.Decided.{Decided}
 use Rattle.entails.specs.declared.deciding.Decided.TheVariants.{Follows, Fails, OutFull, NoClaims, Few}
 
@@ -25,9 +23,9 @@ GoalRead s (Some g) = Reads s (question_of g)
 GoalRead s None = (q : claims.Question) → Reads s q → ⊥
 
 -- the second claim follows; or what is told is against it
-abbrev pub GoalSettled : Goal → Told → Outcome → Type 0
-GoalSettled g t Settled = DoesFollow (first_of g) (second_of g)
-GoalSettled g t Refuted = ToldAgainst g t
+abbrev pub GoalSettled : Goal → Result Unit Told → Type 0
+GoalSettled g (Ok u) = DoesFollow (first_of g) (second_of g)
+GoalSettled g (Err t) = ToldAgainst g t
 
 -- Names and k cells that are against it stand in out, which held o and now holds p: first what each name stands for, and then
 -- place and where it leads for each cell. What stands behind them is as it was.

@@ -1,3 +1,5 @@
+-- that a question is within the limits, as a fact that a struct may hold
+pub mod Proposition
 -- names and a memory that are told, and what shows that it does not follow
 pub mod Telling
 pub mod Trying

@@ -1,17 +1,15 @@
 -- What the search and its choices promise.
-use Rattle.std.specs.Prelude.{◌≡◌, ℕ, ◌<◌, true, false, List, Some, None, Option}
-use Rattle.claims.specs.Claims.{Atom}
-use Rattle.linked.specs.Knowing.{undecided, Joined, Parted}
-use Rattle.linked.specs.Propagating.{Propagated}
+use Rattle.std.specs.Prelude.{◌≡◌, ℕ, ◌<◌, true, false, List, Some, None, Ok, Err, Option, Result}
+use Rattle.claims.specs.Claims.{Pure, Atom}
+use Rattle.linked.specs.Knowing.{undecided}
+use Rattle.linked.specs.Propagating.{AssumedOne, Propagated}
 use Rattle.linked.specs.declared.known.Known.{Known}
 use Rattle.matching.specs.Rules.{Total}
 use Rattle.entails.specs.Reducing.{PartSettled}
-use Rattle.entails.specs.Telling.{ToldAgainst}
+use Rattle.entails.specs.Telling.{TrialAgainst}
 use Rattle.entails.specs.declared.goals.Goal.{Goal}
 use Rattle.matching.specs.declared.parts.Part.{Part}
-use Rattle.entails.specs.declared.told.Told.{Told}
-use Rattle.entails.specs.declared.outcomes.Outcome.{Outcome}
-use Rattle.entails.specs.declared.outcomes.Outcome.TheVariants.{Settled, Refuted}
+use Rattle.entails.specs.declared.stretches.Trial.{Trial}
 
 -- a name below m of which it isn't known whether it is the same as x; or of all it is known
 abbrev pub OpenWith : Known → ℕ → ℕ → Option ℕ → Type 0
@@ -34,19 +32,13 @@ abbrev pub ThenDrawn : List Atom → Option Known → Option Known → Type 0
 ThenDrawn ls None r = r ≡ None
 ThenDrawn ls (Some j) r = Propagated ls j r
 
--- r is known if x and y are the same besides, with what is drawn then
-pub record SameSide (k : Known) (x y : ℕ) (ls : List Atom) (r : Option Known) : Type 0 where
-  pub joined : Option Known
-  pub is_joined : Joined k x y joined
-  pub then-drawn : ThenDrawn ls joined r
+-- r is known if the same or other p holds besides, with what is drawn then
+pub record OnSide (k : Known) (p : Pure) (ls : List Atom) (r : Option Known) : Type 0 where
+  pub assumed : Option Known
+  pub is_assumed : AssumedOne p k assumed
+  pub then-drawn : ThenDrawn ls assumed r
 
--- r is known if x and y are other besides, with what is drawn then
-pub record OtherSide (k : Known) (x y : ℕ) (ls : List Atom) (r : Option Known) : Type 0 where
-  pub parted : Option Known
-  pub is_parted : Parted k x y parted
-  pub then-drawn : ThenDrawn ls parted r
-
--- the part is settled by the rules; or what is told is against the question
-abbrev pub Searched : Goal → Known → Part → Told → Outcome → Type 0
-Searched g k p t Settled = PartSettled g k p
-Searched g k p t Refuted = ToldAgainst g t
+-- the part is settled by the rules; or a trial is against the question
+abbrev pub Searched : Goal → Known → Part → Result Unit Trial → Type 0
+Searched g k p (Ok u) = PartSettled g k p
+Searched g k p (Err t) = TrialAgainst g t

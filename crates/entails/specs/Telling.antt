@@ -1,10 +1,13 @@
 -- Names and a memory that show that a claim doesn't follow from another.
-use Rattle.std.specs.Prelude.{◌*◌, ◌≤◌, Bool, true, false, T, length, take}
+use Rattle.std.specs.Prelude.{◌*◌, ◌≤◌, Bool, true, false, T, List, length, take, Some, None, Ok, Err, Option, Result}
 use Rattle.claims.specs.Claims as claims
 use Rattle.claims.specs.Memory.{Names, Memory, sound, Says}
 use Rattle.claims.specs.Decoding.{decoded_claim}
 use Rattle.memory.specs.Marks.{memory_of}
+use Rattle.models.specs.Generic.{generic, stretched}
 use Rattle.models.specs.Follows.{Against, enough}
+use Rattle.entails.specs.declared.stretches.Stretch.{Stretch}
+use Rattle.entails.specs.declared.stretches.Trial.{Trial}
 use Rattle.entails.specs.declared.told.Told.{Told}
 use Rattle.entails.specs.declared.goals.Goal.{Goal}
 
@@ -42,7 +45,17 @@ pub record ToldAgainst (g : Goal) (t : Told) : Type 0 where
   pub against : Against g.names (first_of g) (second_of g) (take g.names t.names) (told_memory t)
   pub small : t.count ≤ enough (length (first_of g).atoms)
 
--- what is told is against it; or this memory isn't
-abbrev pub TriedOne : Goal → Told → Names → Memory → Bool → Type 0
-TriedOne g t n m true = ToldAgainst g t
-TriedOne g t n m false = NotAgainst g n m
+-- the memory that is tried: the generic one, or the one in which a row goes through a place
+abbrev pub tried : Names → List claims.Atom → Option Stretch → Memory
+tried n cs None = generic n cs
+tried n cs (Some s) = stretched n cs s.row s.through
+
+-- the names and the memory of a trial are against it
+abbrev pub TrialAgainst : Goal → Trial → Type 0
+TrialAgainst g t =
+    Against g.names (first_of g) (second_of g) (take g.names t.names) (tried t.names (first_of g).atoms t.stretch)
+
+-- this memory isn't against it; or a trial is
+abbrev pub TriedOne : Goal → Names → Memory → Result Unit Trial → Type 0
+TriedOne g n m (Ok u) = NotAgainst g n m
+TriedOne g n m (Err t) = TrialAgainst g t

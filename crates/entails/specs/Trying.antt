@@ -1,12 +1,12 @@
 -- What it says that memories were tried and none is against it.
-use Rattle.std.specs.Prelude.{ℕ, ◌<◌, ◌≤◌, Bool, true, false}
+use Rattle.std.specs.Prelude.{ℕ, ◌<◌, ◌≤◌, Ok, Err, Result}
 use Rattle.claims.specs.Memory.{Names}
 use Rattle.models.specs.Generic.{stretched}
 use Rattle.models.specs.Follows.{FollowsLike}
 use Rattle.linked.specs.declared.known.Known.{Known}
 use Rattle.matching.specs.Rules.{StandsAt}
-use Rattle.entails.specs.Telling.{first_of, second_of, NotAgainst, ToldAgainst}
-use Rattle.entails.specs.declared.told.Told.{Told}
+use Rattle.entails.specs.Telling.{first_of, second_of, NotAgainst, TrialAgainst}
+use Rattle.entails.specs.declared.stretches.Trial.{Trial}
 use Rattle.entails.specs.declared.goals.Goal.{Goal}
 
 -- none of the memories is against it in which the row number i goes through a place from 1 on and below e
@@ -19,7 +19,7 @@ pub record FollowsSo (g : Goal) (k : Known) : Type 0 where
   pub stand : StandsAt g.names k names
   pub follows : FollowsLike g.names names (first_of g) (second_of g)
 
--- what is told is against it; or it follows for names of the pattern of what is known
-abbrev pub Exactly : Goal → Known → Told → Bool → Type 0
-Exactly g k t true = ToldAgainst g t
-Exactly g k t false = FollowsSo g k
+-- it follows for names of the pattern of what is known; or a trial is against it
+abbrev pub Exactly : Goal → Known → Result Unit Trial → Type 0
+Exactly g k (Ok u) = FollowsSo g k
+Exactly g k (Err t) = TrialAgainst g t

@@ -1,10 +1,9 @@
 // Choosing two names to go on with: once as the same, and once as other.
-ghost use Rattle.std.specs.Prelude.{◌≡◌, ℕ, ◌<◌, ◌≤◌, false, MatchOption};
+ghost use Rattle.std.specs.Prelude.{◌≡◌, ◌<◌, ◌≤◌, true, IfSome};
 ghost use Rattle.linked.specs.Knowing.{undecided};
-ghost use Rattle.entails.specs.Searching.{Chosen, OpenWith};
+ghost use Rattle.entails.specs.Searching.{Chosen, IsOpen, OpenWith};
 
 use crate::recents::Recent;
-use crate::wishes::Wish;
 use linked::known::Known;
 
 // Is it not known whether x and y are the same?
@@ -16,18 +15,21 @@ pub fn is_open(known: &Known, x: u8, y: u8) -> bool
     !known.same(x, y) && !known.other(x, y)
 }
 
+// The same of a pair, if there are such names.
+pub fn is_open_pair(known: &Known, pair: (u8, u8)) -> bool
+    ensures { result ≡ true → IsOpen known.now pair.0 pair.1 }
+{
+    let (x, y) = pair;
+    x < 64 && y < 64 && is_open(known, x, y)
+}
+
 // A name below `names` of which it isn't known whether it is the same as x.
 fn open_with(known: &Known, x: u8, names: u8) -> Option<u8>
     requires small { x < 64 }
     requires few { names ≤ 64 }
     ensures { OpenWith known.now x names result }
 {
-    for y in 0..names {
-        if is_open(known, x, y) {
-            return Some(y);
-        }
-    }
-    None
+    (0..names).find(|y| is_open(known, x, *y))
 }
 
 // Two names of which it isn't known; none, if all is known of the first `names`.
@@ -35,37 +37,27 @@ fn any_open(known: &Known, names: u8) -> Option<(u8, u8)>
     requires { names ≤ 64 }
     ensures { Chosen known.now names result }
 {
-    for x in 0..names {
-        if let Some(y) = open_with(known, x, names) {
-            return Some((x, y));
-        }
-    }
-    None
+    (0..names).find_map(|x| open_with(known, x, names).map(|y| (x, y)))
 }
 
-// A pair that lately had a side that couldn't be, and of which it isn't known; or nowhere twice.
-fn lately(known: &Known, recent: &Recent) -> (u8, u8) {
-    for pair in recent.pairs {
-        let (x, y) = pair;
-        if x < 64 && y < 64 && is_open(known, x, y) {
-            return (x, y);
-        }
-    }
-    (0, 0)
+// A pair that lately had a side that couldn't be, and of which it isn't known.
+fn lately(known: &Known, recent: &Recent) -> Option<(u8, u8)>
+    ensures { IfSome result (λ pair. IsOpen known.now pair.0 pair.1) }
+{
+    recent
+        .pairs
+        .iter()
+        .copied()
+        .flatten()
+        .find(|pair| is_open_pair(known, *pair))
 }
 
 // Two names of which it isn't known: as lately, or as wished for, or any; none, if all is known.
-pub fn choose(known: &Known, names: u8, recent: &Recent, wish: Wish) -> Option<(u8, u8)>
+pub fn choose(known: &Known, names: u8, recent: &Recent, wish: Option<(u8, u8)>) -> Option<(u8, u8)>
     requires { names ≤ 64 }
     ensures { Chosen known.now names result }
 {
-    let (x, y) = lately(known, recent);
-    if x < 64 && y < 64 && is_open(known, x, y) {
-        return Some((x, y));
-    }
-    let (x, y) = wish.pair;
-    if x < 64 && y < 64 && is_open(known, x, y) {
-        return Some((x, y));
-    }
-    any_open(known, names)
+    lately(known, recent)
+        .or(wish.filter(|pair| is_open_pair(known, *pair)))
+        .or_else(|| any_open(known, names))
 }

@@ -1,13 +1,10 @@
 // Does one claim say another? The call that answers, for words of any kind.
-ghost use Rattle.std.specs.Prelude.{◌≡◌, ◌+◌, ◌*◌, ◌<◌, ◌≤◌, ◌++◌, length, take, drop};
-ghost use Rattle.claims.specs.Words.{Limits};
-ghost use Rattle.entails.specs.Telling.{question_of, ToldAgainst};
+ghost use Rattle.std.specs.Prelude.{◌≡◌, ◌+◌, ◌≤◌, ◌++◌, length, take, drop};
+ghost use Rattle.entails.specs.Telling.{ToldAgainst};
 ghost use Rattle.entails.specs.Deciding.{DecidedPost, Written};
 
 use crate::goals::Goal;
-use crate::outcomes::Outcome;
 use crate::reading::read_goal;
-use crate::settling::settle;
 use crate::told::Told;
 
 // How many words have to be lent.
@@ -38,17 +35,16 @@ fn put(out: &mut [u32], from: usize, words: &[u32])
 
 // Tells the names and the memory that are against it, if there is room.
 fn tell(goal: &Goal, told: &Told, out: &mut [u32]) -> Decided
-    requires limits { Limits (question_of goal.now) }
-    requires against { ToldAgainst goal.now told.now }
+    requires { ToldAgainst goal.now told.now }
     ensures { Written goal.now out.old out.new result }
 {
     let names = usize::from(goal.names);
-    let words = 2 * told.count;
-    if out.len() < names + words {
+    let memory = told.memory();
+    if out.len() < names + memory.len() {
         return Decided::OutFull;
     }
     put(out, 0, &told.names[0..names]);
-    put(out, names, &told.cells[0..words]);
+    put(out, names, memory);
     Decided::Fails(told.count)
 }
 
@@ -62,9 +58,8 @@ pub fn decide(words: &[u32], out: &mut [u32], work: &mut [u32]) -> Decided
     let Some(goal) = read_goal(words) else {
         return Decided::NoClaims;
     };
-    let mut told = Told::new();
-    let Outcome::Refuted = settle(&goal, &mut told, work) else {
-        return Decided::Follows;
-    };
-    tell(&goal, &told, out)
+    match goal.settle(work.first_chunk_mut().unwrap()) {
+        Ok(()) => Decided::Follows,
+        Err(told) => tell(&goal, &told, out),
+    }
 }

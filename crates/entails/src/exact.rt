@@ -1,46 +1,40 @@
 // Exact where all is known of the names: it follows, or one of few memories is against it.
-ghost use Rattle.std.specs.Prelude.{◌≡◌, ℕ, ◌+◌, ◌<◌, ◌≤◌, true, false, length};
-ghost use Rattle.claims.specs.Words.{Limits};
-ghost use Rattle.entails.specs.Telling.{question_of, ToldAgainst};
+ghost use Rattle.std.specs.Prelude.{◌+◌, IfErr, IfOk};
+ghost use Rattle.entails.specs.Telling.{TrialAgainst};
 ghost use Rattle.entails.specs.Trying.{StretchesTried, Exactly};
 
 use crate::goals::Goal;
-use crate::told::Told;
-use crate::trials::try_one;
+use crate::stretches::{Stretch, Trial};
+use crate::telling::places;
 use linked::known::Known;
 
-// Tries the memories in which the row number i of the first claim goes through a place: each name's, or one without a name.
-fn try_stretches(goal: &Goal, told: &mut Told, i: usize, marks: &mut [u32]) -> bool
-    requires limits { Limits (question_of goal.now) }
-    requires room { 128 ≤ length marks.old }
-    ensures names { told.new.names ≡ told.old.names }
-    ensures against { result ≡ true → ToldAgainst goal.now told.new }
-    ensures tried { result ≡ false → StretchesTried goal.now told.old.names i (goal.now.names + 1) }
-{
-    for t in 1..goal.names + 1 {
-        if try_one(goal, told, i, u32::from(t), marks) {
-            return true;
+impl Goal {
+    // Tries the memories in which a row of the first claim goes through a place: each name's, or one without a name.
+    fn try_stretches(
+        &self,
+        names: &[u32; 64],
+        row: usize,
+        marks: &mut [u32; 128],
+    ) -> Result<(), Trial>
+        ensures tried { IfOk result (λ _. StretchesTried self.now names.now row (self.now.names + 1)) }
+        ensures against { IfErr result (TrialAgainst self.now) }
+    {
+        for through in 1..u32::from(self.names) + 1 {
+            self.try_one(names, Some(Stretch { row, through }), marks)?;
         }
+        Ok(())
     }
-    false
-}
 
-// Is one of the memories against it, with each name at the number of the one that stands for it? If none is, it
-// follows for all names of that pattern.
-pub fn is_refuted(goal: &Goal, known: &Known, told: &mut Told, marks: &mut [u32]) -> bool
-    requires limits { Limits (question_of goal.now) }
-    requires room { 128 ≤ length marks.old }
-    ensures { Exactly goal.now known.now told.new result }
-{
-    told.stand(known, goal.names);
-    let atoms = goal.first.shape.atoms;
-    if try_one(goal, told, atoms, 0, marks) {
-        return true;
-    }
-    for i in 0..atoms {
-        if try_stretches(goal, told, i, marks) {
-            return true;
+    // Tries all memories with each name at the number of the one that stands for it. If none is against it, it follows for
+    // all names of that pattern.
+    pub fn try_all(&self, known: &Known, marks: &mut [u32; 128]) -> Result<(), Trial>
+        ensures { Exactly self.now known.now result }
+    {
+        let names = places(known, self.names);
+        self.try_one(&names, None, marks)?;
+        for row in 0..self.first.shape.atoms {
+            self.try_stretches(&names, row, marks)?;
         }
+        Ok(())
     }
-    false
 }

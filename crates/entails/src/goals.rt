@@ -1,5 +1,7 @@
 // A question as values.
-ghost use Rattle.std.specs.Prelude.{◌≡◌, length};
+ghost use Rattle.claims.specs.Decoding.{decoded_claim};
+ghost use Rattle.claims.specs.Words.{Limits};
+ghost use Rattle.entails.specs.Proposition.{Limits-prop};
 
 use claims::Decoded;
 
@@ -9,6 +11,5 @@ pub struct Goal {
     pub names: u8,
     pub first: Decoded,
     pub second: Decoded,
-    ghost first_room: { length first.atoms ≡ 64 },
-    ghost second_room: { length second.atoms ≡ 64 },
+    ghost limits: { Limits (record { names = names; first = decoded_claim first; second = decoded_claim second }) } by { Limits-prop _ },
 }

@@ -2,9 +2,9 @@
 ghost use Rattle.std.specs.Prelude.{◌≡◌, true, map};
 ghost use Rattle.std.specs.List.{AllByRecursion};
 ghost use Rattle.claims.specs.Meaning.{pure_of};
-ghost use Rattle.claims.specs.Words.{PureBelow, Limits};
+ghost use Rattle.claims.specs.Words.{PureBelow};
 ghost use Rattle.matching.specs.Rules.{PureKnown};
-ghost use Rattle.entails.specs.Telling.{second_of, question_of};
+ghost use Rattle.entails.specs.Telling.{second_of};
 
 use crate::goals::Goal;
 use claims::Pure;
@@ -26,18 +26,12 @@ fn all_known(pures: &[Pure], known: &Known) -> bool
     requires { AllByRecursion (PureBelow 64) (map pure_of pures.now) }
     ensures { result ≡ true → AllByRecursion (PureKnown known.now) (map pure_of pures.now) }
 {
-    for pure in pures {
-        if !is_known(*pure, known) {
-            return false;
-        }
-    }
-    true
+    pures.iter().all(|pure| is_known(*pure, known))
 }
 
 // Are the second claim's?
 pub fn pures_match(goal: &Goal, known: &Known) -> bool
-    requires { Limits (question_of goal.now) }
     ensures { result ≡ true → AllByRecursion (PureKnown known.now) (second_of goal.now).pures }
 {
-    all_known(&goal.second.pures[0..goal.second.shape.pures], known)
+    all_known(goal.second.pures(), known)
 }

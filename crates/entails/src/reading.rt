@@ -9,22 +9,14 @@ use claims::layouts::MOST_NAMES;
 pub fn read_goal(words: &[u32]) -> Option<Goal>
     ensures { GoalRead words.now result }
 {
-    if words.len() < 1 {
+    let (names, claims) = words.split_first()?;
+    if *names < 1 || *names > MOST_NAMES {
         return None;
     }
-    let names = words[0];
-    if names < 1 || names > MOST_NAMES {
-        return None;
-    }
-    let names = names as u8;
-    let claims = &words[1..];
-    let Some(first) = decode(claims, names) else {
-        return None;
-    };
+    let names = *names as u8;
+    let first = decode(claims, names)?;
     let rest = &claims[first.shape.len()..];
-    let Some(second) = decode(rest, names) else {
-        return None;
-    };
+    let second = decode(rest, names)?;
     if rest.len() != second.shape.len() {
         return None;
     }

@@ -2,24 +2,19 @@
 
 #[derive(Clone, Copy)]
 pub struct Recent {
-    pub pairs: [(u8, u8); 8],
+    pub pairs: [Option<(u8, u8)>; 8],
 }
 
 impl Recent {
     pub fn new() -> Recent {
-        Recent { pairs: [(0, 0); 8] }
+        Recent { pairs: [None; 8] }
     }
 
     // Puts a pair in front.
     pub fn note(&mut self, x: u8, y: u8) {
-        let mut next = (x, y);
-        for i in 0..8usize {
-            let was = self.pairs[i];
-            self.pairs[i] = next;
-            if was.0 == x && was.1 == y {
-                break;
-            }
-            next = was;
-        }
+        let pair = Some((x, y));
+        let last = self.pairs.iter().position(|old| *old == pair).unwrap_or(7);
+        self.pairs[0..last + 1].rotate_right(1);
+        self.pairs[0] = pair;
     }
 }

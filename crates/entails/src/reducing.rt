@@ -1,6 +1,4 @@
 // One step of settling a part of a question, with what is known: taking out what is found, and cutting.
-ghost use Rattle.claims.specs.Words.{Limits};
-ghost use Rattle.entails.specs.Telling.{question_of};
 ghost use Rattle.entails.specs.Reducing.{PartOf, Reduces};
 
 use crate::goals::Goal;
@@ -20,8 +18,7 @@ pub enum Reduced {
 // What is left of a part: by the names that stand for its names; and if the second claim's same and other are known,
 // without what is found, and in two parts if it hangs together in more than one.
 pub fn reduce(goal: &Goal, part: &Part, known: &Known) -> Reduced
-    requires limits { Limits (question_of goal.now) }
-    requires part_of { PartOf goal.now known.now part.now }
+    requires { PartOf goal.now known.now part.now }
     ensures { Reduces goal.now known.now part.now result }
 {
     let renamed = part.renamed(known);
@@ -32,8 +29,8 @@ pub fn reduce(goal: &Goal, part: &Part, known: &Known) -> Reduced
     if left.own.count == 0 && left.wanted.count == 0 {
         return Reduced::Done;
     }
-    let Some(parts) = left.cut() else {
-        return Reduced::Left(left);
-    };
-    Reduced::Split(parts.0, parts.1)
+    match left.cut() {
+        Some((one, rest)) => Reduced::Split(one, rest),
+        None => Reduced::Left(left),
+    }
 }

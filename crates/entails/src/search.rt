@@ -3,73 +3,58 @@
 // Take out what is found, and go through parts that have nothing to do with each other one by one; try
 // the memories that a failed match points at; and else go on with two names, once as the same and once as other. Both are
 // always gone through, with what can be drawn then, so that it matters only for speed which two they are.
-ghost use Rattle.std.specs.Prelude.{◌≤◌, length};
-ghost use Rattle.claims.specs.Words.{Limits};
-ghost use Rattle.entails.specs.Telling.{question_of};
 ghost use Rattle.entails.specs.Reducing.{PartOf};
 ghost use Rattle.entails.specs.Searching.{Searched};
 
 use crate::choosing::choose;
-use crate::exact::is_refuted;
 use crate::goals::Goal;
-use crate::outcomes::Outcome;
 use crate::recents::Recent;
 use crate::reducing::{Reduced, reduce};
-use crate::showing::is_shown;
-use crate::sides::{other_side, same_side};
-use crate::told::Told;
+use crate::sides::side;
+use crate::stretches::Trial;
 use crate::wishing::wish;
+use claims::{Name, Pure};
 use linked::known::Known;
 use matching::parts::Part;
 
-// Wherever names agree with what is known: is the part of the question settled, or is there a memory against the question?
-pub fn search(
-    goal: &Goal,
-    mut known: Known,
-    mut part: Part,
-    recent: &mut Recent,
-    told: &mut Told,
-    marks: &mut [u32],
-) -> Outcome
-    requires limits { Limits (question_of goal.now) }
-    requires room { 128 ≤ length marks.old }
-    requires part_of { PartOf goal.now known part }
-    ensures { Searched goal.now known part told.new result }
-{
-    'others: loop {
-        match reduce(goal, &part, &known) {
-            Reduced::Done => return Outcome::Settled,
-            Reduced::Split(one, rest) => {
-                if let Outcome::Refuted = search(goal, known, one, recent, told, marks) {
-                    return Outcome::Refuted;
+impl Goal {
+    // Wherever names agree with what is known: is the part of the question settled, or is there a memory against the question?
+    pub fn search(
+        &self,
+        mut known: Known,
+        mut part: Part,
+        recent: &mut Recent,
+        marks: &mut [u32; 128],
+    ) -> Result<(), Trial>
+        requires { PartOf self.now known part }
+        ensures { Searched self.now known part result }
+    {
+        'others: loop {
+            match reduce(self, &part, &known) {
+                Reduced::Done => return Ok(()),
+                Reduced::Split(one, rest) => {
+                    self.search(known, one, recent, marks)?;
+                    part = rest;
+                    continue 'others;
                 }
-                part = rest;
-                continue 'others;
-            }
-            Reduced::Left(left) => {
-                let wish = wish(goal, &left, &known);
-                if is_shown(goal, &known, wish, told, marks) {
-                    return Outcome::Refuted;
-                }
-                let Some((x, y)) = choose(&known, goal.names, recent, wish) else {
-                    if is_refuted(goal, &known, told, marks) {
-                        return Outcome::Refuted;
+                Reduced::Left(left) => {
+                    let wish = wish(self, &left, &known);
+                    self.show(&known, wish.detour, marks)?;
+                    let Some((x, y)) = choose(&known, self.names, recent, wish.pair) else {
+                        return self.try_all(&known, marks);
+                    };
+                    let (x, y) = (Name(x), Name(y));
+                    match side(&left, &known, Pure::Same(x, y)) {
+                        Some(same) => self.search(same, left, recent, marks)?,
+                        None => recent.note(x.0, y.0),
                     }
-                    return Outcome::Settled;
-                };
-                if let Some(same) = same_side(&left, &known, x, y) {
-                    if let Outcome::Refuted = search(goal, same, left, recent, told, marks) {
-                        return Outcome::Refuted;
-                    }
-                } else {
-                    recent.note(x, y);
+                    let Some(other) = side(&left, &known, Pure::Other(x, y)) else {
+                        recent.note(x.0, y.0);
+                        return Ok(());
+                    };
+                    known = other;
+                    part = left;
                 }
-                let Some(other) = other_side(&left, &known, x, y) else {
-                    recent.note(x, y);
-                    return Outcome::Settled;
-                };
-                known = other;
-                part = left;
             }
         }
     }

@@ -1,53 +1,56 @@
 // Memories that a failed match points at: the generic one, and one in which a row goes through a place.
-ghost use Rattle.std.specs.Prelude.{◌≡◌, ◌<◌, ◌≤◌, true, length};
-ghost use Rattle.claims.specs.Words.{Limits};
-ghost use Rattle.entails.specs.Telling.{question_of, ToldAgainst};
+ghost use Rattle.std.specs.Prelude.{IfErr};
+ghost use Rattle.entails.specs.Telling.{TrialAgainst};
 
 use crate::goals::Goal;
-use crate::told::Told;
-use crate::trials::try_one;
-use crate::wishes::Wish;
+use crate::stretches::{Stretch, Trial};
+use crate::telling::places;
+use crate::wishes::Detour;
 use claims::Atom;
 use linked::forks::is_forkless;
 use linked::known::Known;
 
-// The number of the first claim's row whose ends these names stand for; past the last, if there is none.
-fn row_number(goal: &Goal, known: &Known, row: (u8, u8)) -> usize {
-    let atoms = &goal.first.atoms[0..goal.first.shape.atoms];
-    for (i, atom) in atoms.iter().enumerate() {
-        if let Atom::Row(x, y) = *atom {
-            if x.0 < 64 && y.0 < 64 && known.find(x.0) == row.0 && known.find(y.0) == row.1 {
-                return i;
-            }
+// Is it a row, and do these names stand for its ends?
+fn is_row(atom: Atom, known: &Known, row: (u8, u8)) -> bool {
+    match atom {
+        Atom::Cell(_, _) => false,
+        Atom::Row(x, y) => {
+            x.0 < 64 && y.0 < 64 && known.find(x.0) == row.0 && known.find(y.0) == row.1
         }
     }
-    atoms.len()
 }
 
-// Does nothing fork?
-fn nothing_forks(goal: &Goal, known: &Known) -> bool
-    requires { Limits (question_of goal.now) }
-{
-    is_forkless(&goal.first.atoms[0..goal.first.shape.atoms], known)
-}
+impl Goal {
+    // The first claim's row that is meant, by its number.
+    fn stretch(&self, known: &Known, detour: Detour) -> Option<Stretch> {
+        let row = self
+            .first
+            .atoms()
+            .iter()
+            .position(|atom| is_row(*atom, known, detour.row))?;
+        Some(Stretch {
+            row,
+            through: u32::from(detour.through),
+        })
+    }
 
-// Where nothing forks: is the generic memory against it, or the one that is wished for?
-pub fn is_shown(goal: &Goal, known: &Known, wish: Wish, told: &mut Told, marks: &mut [u32]) -> bool
-    requires limits { Limits (question_of goal.now) }
-    requires room { 128 ≤ length marks.old }
-    ensures { result ≡ true → ToldAgainst goal.now told.new }
-{
-    if !nothing_forks(goal, known) {
-        return false;
+    // Where nothing forks, tries the generic memory, and the one that is wished for.
+    pub fn show(
+        &self,
+        known: &Known,
+        detour: Option<Detour>,
+        marks: &mut [u32; 128],
+    ) -> Result<(), Trial>
+        ensures { IfErr result (TrialAgainst self.now) }
+    {
+        if !is_forkless(self.first.atoms(), known) {
+            return Ok(());
+        }
+        let names = places(known, self.names);
+        self.try_one(&names, None, marks)?;
+        match detour.and_then(|detour| self.stretch(known, detour)) {
+            Some(stretch) => self.try_one(&names, Some(stretch), marks),
+            None => Ok(()),
+        }
     }
-    told.stand(known, goal.names);
-    let atoms = goal.first.shape.atoms;
-    if try_one(goal, told, atoms, 0, marks) {
-        return true;
-    }
-    if wish.through == 0 {
-        return false;
-    }
-    let row = row_number(goal, known, wish.row);
-    try_one(goal, told, row, u32::from(wish.through), marks)
 }

@@ -1,13 +1,12 @@
 // Making a told memory small, for people's sake: the ends of rows are tried as the same, as long as that leaves a memory
 // with fewer cells that is still against it. Of how small it gets nothing is promised.
-ghost use Rattle.std.specs.Prelude.{◌<◌, ◌≤◌, length};
-ghost use Rattle.claims.specs.Words.{Limits};
-ghost use Rattle.entails.specs.Telling.{question_of, ToldAgainst};
+ghost use Rattle.std.specs.Prelude.{◌<◌, IfSome};
+ghost use Rattle.entails.specs.Telling.{ToldAgainst, TrialAgainst};
 
 use crate::goals::Goal;
-use crate::settling::whole;
-use crate::showing::is_shown;
+use crate::stretches::Trial;
 use crate::told::Told;
+use crate::trials::write;
 use crate::wishing::wish;
 use claims::Atom;
 use linked::known::Known;
@@ -15,123 +14,109 @@ use linked::known::Known;
 // So many memories are tried at the most.
 const TRIALS: usize = 32;
 
+// With x and y the same, if they may be.
+fn joined(known: &Known, x: u8, y: u8) -> Known {
+    if x >= 64 || y >= 64 {
+        return *known;
+    }
+    known.join(x, y).unwrap_or(*known)
+}
+
 // What is known of names that stand for the same in what is told.
 fn told_same(told: &Told, names: u8) -> Known {
     let mut known = Known::new();
-    for x in 0..names.min(64) {
-        let place = told.names[x as usize];
-        if place >= 64 {
-            continue;
-        }
-        if let Some(more) = known.join(x, place as u8) {
-            known = more;
+    for (x, place) in (0..names).zip(&told.names) {
+        if let Ok(place) = u8::try_from(*place) {
+            known = joined(&known, x, place);
         }
     }
     known
 }
 
-// With the ends of one row the same, if they may be.
-fn emptied(known: &Known, atom: Atom) -> Known {
-    let Atom::Row(x, y) = atom else {
-        return *known;
-    };
-    if x.0 >= 64 || y.0 >= 64 {
-        return *known;
-    }
-    match known.join(x.0, y.0) {
-        Some(more) => more,
-        None => *known,
-    }
-}
-
-// With the ends of so many rows the same, from one of them on.
-fn all_emptied(goal: &Goal, known: &Known, from: usize, count: usize) -> Known {
-    let atoms = &goal.first.atoms[0..goal.first.shape.atoms];
+// With the ends of these rows the same, if they may be.
+fn emptied(known: &Known, atoms: &[Atom]) -> Known {
     let mut more = *known;
-    for (i, atom) in atoms.iter().enumerate() {
-        if i >= from && i - from < count {
-            more = emptied(&more, *atom);
+    for atom in atoms {
+        if let Atom::Row(x, y) = *atom {
+            more = joined(&more, x.0, y.0);
         }
     }
     more
 }
 
+// Is it a row that is known to be empty?
+fn is_empty(atom: Atom, known: &Known) -> bool {
+    match atom {
+        Atom::Cell(_, _) => false,
+        Atom::Row(x, y) => x.0 < 64 && y.0 < 64 && known.same(x.0, y.0),
+    }
+}
+
 // How many rows and cells aren't known to be empty?
-fn full(goal: &Goal, known: &Known) -> usize {
-    let atoms = &goal.first.atoms[0..goal.first.shape.atoms];
-    let mut count: usize = 0;
-    for atom in atoms {
-        let empty = match *atom {
-            Atom::Cell(_, _) => false,
-            Atom::Row(x, y) => x.0 < 64 && y.0 < 64 && known.same(x.0, y.0),
-        };
-        if !empty {
-            count = count.saturating_add(1);
-        }
-    }
-    count
+fn full(atoms: &[Atom], known: &Known) -> usize {
+    atoms.iter().filter(|atom| !is_empty(**atom, known)).count()
 }
 
-// Tells a memory with fewer cells, if there is one where this is known of names.
-fn is_smaller(goal: &Goal, known: &Known, told: &mut Told, marks: &mut [u32]) -> bool
-    requires limits { Limits (question_of goal.now) }
-    requires room { 128 ≤ length marks.old }
-    requires against { ToldAgainst goal.now told.old }
-    ensures { ToldAgainst goal.now told.new }
-{
-    let wish = wish(goal, &whole(goal, known), known);
-    let mut trial = Told::new();
-    if !is_shown(goal, known, wish, &mut trial, marks) {
-        return false;
+impl Goal {
+    // What is told of a trial that is against it.
+    fn told(&self, trial: &Trial) -> Told
+        requires { TrialAgainst self.now trial.now }
+        ensures { ToldAgainst self.now result }
+    {
+        write(trial, self.first.atoms())
     }
-    if trial.count >= told.count {
-        return false;
-    }
-    *told = trial;
-    true
-}
 
-// One round over the rows, so many at a time; answers how many trials are left.
-fn round(
-    goal: &Goal,
-    mut known: Known,
-    count: usize,
-    mut trials: usize,
-    told: &mut Told,
-    marks: &mut [u32],
-) -> usize
-    requires limits { Limits (question_of goal.now) }
-    requires room { 128 ≤ length marks.old }
-    requires against { ToldAgainst goal.now told.old }
-    ensures { ToldAgainst goal.now told.new }
-{
-    for i in 0..goal.first.shape.atoms {
-        if trials == 0 || count == 0 || i % count != 0 {
-            continue;
-        }
-        let more = all_emptied(goal, &known, i, count);
-        if full(goal, &more) == full(goal, &known) {
-            continue;
-        }
-        trials -= 1;
-        if is_smaller(goal, &more, told, marks) {
-            known = more;
-        }
+    // A memory with fewer cells, if one is found where this is known of names.
+    fn smaller(&self, known: &Known, told: &Told, marks: &mut [u32; 128]) -> Option<Told>
+        ensures { IfSome result (ToldAgainst self.now) }
+    {
+        let wish = wish(self, &self.whole(known), known);
+        self.show(known, wish.detour, marks)
+            .err()
+            .map(|trial| self.told(&trial))
+            .filter(|trial| trial.count < told.count)
     }
-    trials
-}
 
-// Makes the told memory small.
-pub fn shrink(goal: &Goal, told: &mut Told, marks: &mut [u32])
-    requires limits { Limits (question_of goal.now) }
-    requires room { 128 ≤ length marks.old }
-    requires against { ToldAgainst goal.now told.old }
-    ensures { ToldAgainst goal.now told.new }
-{
-    let known = told_same(told, goal.names);
-    let trials = round(goal, known, 16, TRIALS, told, marks);
-    let known = told_same(told, goal.names);
-    let trials = round(goal, known, 4, trials, told, marks);
-    let known = told_same(told, goal.names);
-    let _trials = round(goal, known, 1, trials, told, marks);
+    // One round over the rows, so many at a time; answers how many trials are left.
+    fn round(
+        &self,
+        size: usize,
+        mut trials: usize,
+        told: &mut Told,
+        marks: &mut [u32; 128],
+    ) -> usize
+        requires some { 0 < size }
+        requires against { ToldAgainst self.now told.old }
+        ensures { ToldAgainst self.now told.new }
+    {
+        let atoms = self.first.atoms();
+        let mut known = told_same(told, self.names);
+        for rows in atoms.chunks(size) {
+            if trials == 0 {
+                break;
+            }
+            let more = emptied(&known, rows);
+            if full(atoms, &more) == full(atoms, &known) {
+                continue;
+            }
+            trials -= 1;
+            if let Some(trial) = self.smaller(&more, told, marks) {
+                known = more;
+                *told = trial;
+            }
+        }
+        trials
+    }
+
+    // What is told of a trial that is against it, made small.
+    pub fn shrink(&self, trial: &Trial, marks: &mut [u32; 128]) -> Told
+        requires { TrialAgainst self.now trial.now }
+        ensures { ToldAgainst self.now result }
+    {
+        let mut told = self.told(trial);
+        let trials = self.round(16, TRIALS, &mut told, marks);
+        let trials = self.round(4, trials, &mut told, marks);
+        let _trials = self.round(1, trials, &mut told, marks);
+        told
+    }
 }

@@ -1,5 +1,5 @@
 // Writing down names and a memory.
-ghost use Rattle.std.specs.Prelude.{◌≡◌, ℕ, ◌+◌, ◌<◌, ◌≤◌, [], ◌∷◌, ◌++◌};
+ghost use Rattle.std.specs.Prelude.{◌≡◌, ◌+◌, ◌<◌, ◌≤◌, [], ◌∷◌, ◌++◌};
 ghost use Rattle.claims.specs.Meaning.{atom_of};
 ghost use Rattle.linked.specs.Stands.{root};
 ghost use Rattle.models.specs.Generic.{linked, linked_through};
@@ -25,33 +25,31 @@ fn place_of(known: &Known, x: u8, names: u8) -> u32
     }
 }
 
+// Each of so many names at the number of the one that stands for it.
+pub fn places(known: &Known, names: u8) -> [u32; 64]
+    requires some { 1 ≤ names }
+    requires few { names ≤ 64 }
+    ensures { StandsAt names known.now result }
+{
+    let mut places = [0; 64];
+    // an index, since with `array::from_fn` the check doesn't see what is said of each place
+    for x in 0..64u8 {
+        places[x as usize] = place_of(known, x, names);
+    }
+    places
+}
+
 impl Told {
-    pub fn new() -> Told {
+    // The names and no cells.
+    pub fn new(names: &[u32; 64]) -> Told
+        ensures names { result.names ≡ names.now }
+        ensures none { result.count ≡ 0 }
+    {
         Told {
-            names: [0; 64],
+            names: *names,
             cells: [0; 256],
             count: 0,
         }
-    }
-
-    // Each of so many names at the number of the one that stands for it.
-    pub fn stand(&mut self, known: &Known, names: u8)
-        requires some { 1 ≤ names }
-        requires few { names ≤ 64 }
-        ensures { StandsAt names known.now self.new.names }
-    {
-        for x in 0..64u8 {
-            let place = place_of(known, x, names);
-            self.names[x as usize] = place;
-        }
-    }
-
-    // No cells.
-    pub fn clear(&mut self)
-        ensures names { self.new.names ≡ self.old.names }
-        ensures none { self.new.count ≡ 0 }
-    {
-        self.count = 0;
     }
 
     // One cell more.
@@ -74,27 +72,21 @@ impl Told {
         ensures cells { told_memory self.new ≡ told_memory self.old ++ linked self.old.names (atom_of atom) }
         ensures count { self.new.count ≤ self.old.count + 2 }
     {
-        match atom {
-            Atom::Cell(x, y) => {
-                let from = at(&self.names, x).0;
-                let to = at(&self.names, y).0;
-                self.push(from, to);
-            }
-            Atom::Row(x, y) => {
-                let from = at(&self.names, x).0;
-                let to = at(&self.names, y).0;
-                if from != to {
-                    self.push(from, to);
-                }
+        let from = at(&self.names, atom.start());
+        let to = at(&self.names, atom.end());
+        if let Atom::Row(_, _) = atom {
+            if from == to {
+                return;
             }
         }
+        self.push(from.0, to.0);
     }
 
     // The same, but two cells through a place for a row that isn't empty.
-    pub fn link_through(&mut self, atom: Atom, t: u32)
+    pub fn link_through(&mut self, atom: Atom, through: u32)
         requires { self.old.count < 127 }
         ensures names { self.new.names ≡ self.old.names }
-        ensures cells { told_memory self.new ≡ told_memory self.old ++ linked_through self.old.names (atom_of atom) t }
+        ensures cells { told_memory self.new ≡ told_memory self.old ++ linked_through self.old.names (atom_of atom) through }
         ensures count { self.new.count ≤ self.old.count + 2 }
     {
         match atom {
@@ -103,8 +95,8 @@ impl Told {
                 let from = at(&self.names, x).0;
                 let to = at(&self.names, y).0;
                 if from != to {
-                    self.push(from, t);
-                    self.push(t, to);
+                    self.push(from, through);
+                    self.push(through, to);
                 }
             }
         }

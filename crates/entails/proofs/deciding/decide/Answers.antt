@@ -12,13 +12,13 @@ returns-in_default c =
     post c.args.words.now (length c.args.work.now) c.args.out.now c.args.out.now NoClaims c.if-work-lt-LENT.false
     (λ e. let z : ◌≡◌ {A = ℕ} 0 1 = cc in omega arith) (record { none = c.in_default.ensures; unchanged = refl })
 
-pub returns-in_default-settle : goal.returns-in_default-settle
-returns-in_default-settle c =
+pub returns-in-Ok : goal.returns-in-Ok
+returns-in-Ok c =
     post c.args.words.now (length c.args.work.now) c.args.out.now c.args.out.now Follows c.if-work-lt-LENT.false
     (λ e. let z : ◌≡◌ {A = ℕ} 0 1 = cc in omega arith)
-    (record { question = question_of c.in-Some.goal; reads = c.in-Some.ensures; so = record { follows = c.in_default-settle.ensures; unchanged = refl } })
+    (record { question = question_of c.in-Some.goal; reads = c.in-Some.ensures; so = record { follows = c.in-Ok.ensures; unchanged = refl } })
 
-pub returns : goal.returns
-returns c =
+pub returns-in-Err : goal.returns-in-Err
+returns-in-Err c =
     answered c.in-Some.goal c.args.words.now (length c.args.work.now) c.args.out.now c.tell.new.out c.tell.result
     c.if-work-lt-LENT.false c.in-Some.ensures c.tell.ensures

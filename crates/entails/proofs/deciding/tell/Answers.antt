@@ -15,7 +15,7 @@ returns c =
     let first : o1 ≡ take 0 o ++ take n t.names ++ drop (0 + length (take n t.names)) o =
     subst (λ (a : List ℕ). o1 ≡ take 0 o ++ a ++ drop (0 + length a) o) (front n t.names) c.put.ensures in
     let second : o2 ≡ take n o1 ++ take (2 * t.count) t.cells ++ drop (n + length (take (2 * t.count) t.cells)) o1 =
-    subst (λ (b : List ℕ). o2 ≡ take n o1 ++ b ++ drop (n + length b) o1) (front (2 * t.count) t.cells) c.put-2.ensures in
+    subst (λ (b : List ℕ). o2 ≡ take n o1 ++ b ++ drop (n + length b) o1) c.memory-memory.ensures c.put-2.ensures in
     let P : ℕ → Type 0 = λ i. o1 ≡ take 0 o ++ take i t.names ++ drop (0 + length (take i t.names)) o in
     let Q : ℕ → Type 0 = λ i. o2 ≡ take i o1 ++ take (2 * t.count) t.cells ++ drop (i + length (take (2 * t.count) t.cells)) o1 in
-    shown g t o o1 o2 c.requires.limits c.requires.against (subst P is first) (subst Q is second)
+    shown g t o o1 o2 c.requires (subst P is first) (subst Q is second)

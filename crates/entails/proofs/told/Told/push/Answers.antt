@@ -1,8 +1,8 @@
-use Rattle.std.proofs.Common.{refl, arith}
+use Rattle.std.proofs.Common.{arith}
 use Rattle.entails.proofs.Writing.{told_push}
 use Rattle.entails.proofs.told.Told.push.Goals as goal
 
-pub returns : goal.returns
-returns c =
+pub returns-clause-cell : goal.returns-clause-cell
+returns-clause-cell c =
     let t = c.args.self.now in
-    record { names = refl; cell = told_push t.cells t.count c.args.place c.args.leads (omega (arith, t.room)); count = refl }
+    told_push t.cells t.count c.args.place c.args.leads (omega (arith, t.room))
