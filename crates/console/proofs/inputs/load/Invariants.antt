@@ -1,5 +1,8 @@
-use Rattle.std.proofs.Common.{◌≡◌, ◌≤◌, length, vec_len}
+use Rattle.std.proofs.Common.{◌≡◌, ◌-◌, ◌≤◌, length, vec_len}
 use Rattle.console.proofs.inputs.load.Given as goal
 
-abbrev pub invariant-loop : goal.invariant-loop
-invariant-loop g l = (vec_len l.all ≤ l.most) × (length l.part ≡ 65536)
+abbrev pub invariant-loop-all : goal.invariant-loop-all
+invariant-loop-all g l = (vec_len l.all ≤ l.most) × (length l.part ≡ 65536)
+
+abbrev pub decreases-loop-all : goal.decreases-loop-all
+decreases-loop-all g l = l.most - vec_len l.all
