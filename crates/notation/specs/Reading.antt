@@ -1,5 +1,5 @@
 -- What a reader promises.
-use Rattle.std.specs.Prelude.{ℕ, ◌-◌, ◌<◌, List, length, Some, None, Ok, Err, vec_items, Option, Result}
+use Rattle.std.specs.Prelude.{◌≡◌, ℕ, ◌-◌, ◌<◌, List, length, Some, None, Ok, Err, vec_items, Option, Result}
 use Rattle.std.specs.declared.alloc.AllocError.{AllocError}
 use Rattle.claims.specs.Meaning.{question_of}
 use Rattle.notation.specs.declared.numbering.Asked.{Asked}
@@ -8,9 +8,14 @@ use Rattle.notation.specs.declared.readers.Reader.{Reader}
 use Rattle.notation.specs.Order.{Accepted}
 use Rattle.notation.specs.Spelling.{spellings}
 
+-- a question that was asked in this text, and is accepted with its names as the text spells them
+pub record Asks (text : List ℕ) (a : Asked) : Type 0 where
+  pub in_text : a.text.now ≡ text
+  pub accepted : Accepted (question_of a.question) (spellings text (vec_items a.names))
+
 -- each question of the text is one that is accepted
 abbrev pub Gives : List ℕ → Result (Option (Result Asked Error)) AllocError → Type 0
-Gives text (Ok (Some (Ok a))) = Accepted (question_of a.question) (spellings text (vec_items a.names))
+Gives text (Ok (Some (Ok a))) = Asks text a
 Gives text (Ok (Some (Err e))) = Unit {0}
 Gives text (Ok None) = Unit {0}
 Gives text (Err e) = Unit {0}

@@ -3,9 +3,10 @@
 // numbers the names in the same way as the text that was read.
 ghost use Rattle.std.specs.Prelude.{◌≡◌, ◌<◌, ◌≤◌, [], ◌∷◌, map, length, IfSome, IfOk, vec_len, slice_index_or};
 ghost use Rattle.std.specs.List.{flat_map};
-ghost use Rattle.claims.specs.Meaning.{pure_of, atom_of, claim_of, question_of};
+ghost use Rattle.claims.specs.Meaning.{pure_of, atom_of, claim_of};
 ghost use Rattle.notation.specs.Spelling.{Distinct, Found, spellings, mention_spelling};
-ghost use Rattle.notation.specs.Order.{InOrder, Numbered, Accepted, pure_names, atom_names};
+ghost use Rattle.notation.specs.Order.{InOrder, Numbered, pure_names, atom_names};
+ghost use Rattle.notation.specs.Reading.{Asks};
 
 use crate::drafts::{Draft, DraftAtom, DraftPure, Mention, Pair};
 use crate::problems::Problem;
@@ -20,8 +21,10 @@ pub const MOST_NAMES: usize = 64;
 
 // A question that was asked in a text.
 #[derive(Drop)]
-pub struct Asked {
+pub struct Asked<'a> {
     pub question: Question,
+    // the whole text, for the spelling of the names
+    pub text: &'a [u8],
     // where each name stands first in the question; the span of nowhere is empty
     pub names: Vec<Span>,
     // the line where the question begins, from 1
@@ -163,8 +166,8 @@ pub fn numbered<'a>(
     line: usize,
     first: &Draft,
     second: &Draft,
-) -> Result<Asked, Stop<'a>>
-    ensures { IfOk result (λ a. Accepted (question_of a.question) (spellings text.now a.names.items)) }
+) -> Result<Asked<'a>, Stop<'a>>
+    ensures { IfOk result (Asks text.now) }
 {
     let mut table = Table::new(heap, text)?;
     let first = table.claim(heap, first)?;
@@ -177,6 +180,7 @@ pub fn numbered<'a>(
     };
     Ok(Asked {
         question,
+        text,
         names,
         line,
     })

@@ -1,9 +1,6 @@
 // The questions of a text, one after another. An error in one of them does not lose the others.
 ghost use Rattle.std.specs.Prelude.{◌≡◌, IfOk};
-ghost use Rattle.claims.specs.Meaning.{question_of};
-ghost use Rattle.notation.specs.Order.{Accepted};
-ghost use Rattle.notation.specs.Spelling.{spellings};
-ghost use Rattle.notation.specs.Reading.{Gives, Advances};
+ghost use Rattle.notation.specs.Reading.{Asks, Gives, Advances};
 
 use crate::numbering::{Asked, numbered};
 use crate::places::Place;
@@ -29,8 +26,8 @@ pub struct Reader<'a> {
 
 impl<'a> Scan<'a> {
     // The question that begins here.
-    fn question(&mut self, heap: Global, line: usize) -> Result<Asked, Stop<'a>>
-        ensures { IfOk result (λ a. Accepted (question_of a.question) (spellings self.old.text.now a.names.items)) }
+    fn question(&mut self, heap: Global, line: usize) -> Result<Asked<'a>, Stop<'a>>
+        ensures { IfOk result (Asks self.old.text.now) }
     {
         let text = self.text;
         let token = self.peek();
@@ -117,7 +114,7 @@ impl<'a> Reader<'a> {
     }
 
     // The next question or the error in it, or `None` at the end of the text.
-    pub fn next(&mut self, heap: Global) -> Result<Option<Result<Asked, Error<'a>>>, AllocError>
+    pub fn next(&mut self, heap: Global) -> Result<Option<Result<Asked<'a>, Error<'a>>>, AllocError>
         ensures same { self.new.text.now ≡ self.old.text.now }
         ensures gives { Gives self.old.text.now result }
         ensures advances { Advances self.old result self.new }
