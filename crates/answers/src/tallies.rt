@@ -2,7 +2,7 @@
 use crate::asking::Answer;
 use std::fmt;
 
-#[derive(Clone, Copy)]
+#[derive(Clone, Copy, Debug, Default, PartialEq, Eq)]
 pub struct Tally {
     pub follow: u64,
     pub fail: u64,
@@ -11,11 +11,7 @@ pub struct Tally {
 
 impl Tally {
     pub fn new() -> Tally {
-        Tally {
-            follow: 0,
-            fail: 0,
-            unread: 0,
-        }
+        Tally::default()
     }
 
     // Counts a question with its answer.
@@ -43,9 +39,11 @@ impl Tally {
 impl fmt::Display for Tally {
     fn fmt<W: fmt::Write>(&self, f: &mut fmt::Formatter<W>) -> fmt::Result {
         let questions = self.questions();
-        let follow = self.follow;
-        let fail = self.fail;
-        let unread = self.unread;
+        let Tally {
+            follow,
+            fail,
+            unread,
+        } = *self;
         write!(f, "# {questions} questions: {follow} follow, {fail} fail")?;
         if unread > 0 {
             write!(f, ", {unread} not read")?;

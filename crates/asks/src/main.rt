@@ -3,14 +3,25 @@
 #![tactic(auto)]
 
 use answers::{Lent, Tally, ask, page};
-use console::{Arguments, load_named};
+use console::{Program, run};
 use notation::{MOST_BYTES, Reader, report};
+use std::alloc::{AllocError, Global};
 use std::io;
 use std::process::ExitCode;
 
-const VERSION: &str = "asks 0.2, proved with rattle-kit-13f logic dac8208d650f15bf\n";
+// What goes on from one question to the next.
+#[derive(Drop)]
+struct Asks {
+    lent: Lent,
+    tally: Tally,
+}
 
-const HELP: &str = "usage: asks [FILE..]
+impl Program for Asks {
+    const NAME: &'static str = "asks";
+
+    const VERSION: &'static str = "asks 0.2, proved with rattle-kit-13f logic dac8208d650f15bf\n";
+
+    const HELP: &'static str = "usage: asks [FILE..]
 
 Reads questions about linked cells from the files, or from standard input, and answers each:
 does the first claim say the second? The first line is `follows` or `fails`. Below it stand the
@@ -33,91 +44,52 @@ A question, in words or on one line:
 The exit status is 0 if all was read, whatever the answers, and 1 if anything was not.
 ";
 
-// What goes on from one question to the next.
-#[derive(Drop)]
-struct Session {
-    lent: Lent,
-    tally: Tally,
-    // was all read so far?
-    good: bool,
-}
+    const MOST_BYTES: usize = MOST_BYTES;
 
-// Answers the questions of one text.
-fn show_text(rt: &HostRuntime, session: &mut Session, file: &str, text: &[u8]) -> io::Result<()> {
-    let heap = rt.alloc();
-    let mut reader = match Reader::new(text) {
-        Ok(reader) => reader,
-        Err(e) => {
-            session.good = false;
-            return rt.eprint(report(heap, file, text, &e)?);
-        }
-    };
-    while let Some(next) = reader.next(heap)? {
-        match next {
-            Ok(asked) => {
-                let answer = ask(heap, &asked.question, &mut session.lent)?;
-                session.tally.add(&answer);
-                rt.println(page(heap, text, &asked, &answer)?)?;
-            }
+    fn begin(heap: Global) -> Result<Asks, AllocError> {
+        Ok(Asks {
+            lent: Lent::new(heap)?,
+            tally: Tally::default(),
+        })
+    }
+
+    // Answers the questions of the text.
+    fn show_text(&mut self, rt: &HostRuntime, file: &str, text: &[u8]) -> io::Result<bool> {
+        let heap = rt.alloc();
+        let mut reader = match Reader::new(text) {
+            Ok(reader) => reader,
             Err(e) => {
-                session.good = false;
-                session.tally.add_unread();
                 rt.eprint(report(heap, file, text, &e)?)?;
+                return Ok(false);
+            }
+        };
+        let mut good = true;
+        while let Some(next) = reader.next(heap)? {
+            match next {
+                Ok(asked) => {
+                    let answer = ask(heap, &asked.question, &mut self.lent)?;
+                    self.tally.add(&answer);
+                    rt.println(page(heap, &asked, &answer)?)?;
+                }
+                Err(e) => {
+                    self.tally.add_unread();
+                    rt.eprint(report(heap, file, text, &e)?)?;
+                    good = false;
+                }
             }
         }
+        Ok(good)
     }
-    Ok(())
-}
 
-// Reads one file and answers its questions.
-fn show_file(rt: &HostRuntime, session: &mut Session, file: &str) -> io::Result<()> {
-    match load_named(rt, file, MOST_BYTES) {
-        Ok(text) => show_text(rt, session, file, text.as_slice()),
-        Err(e) => {
-            session.good = false;
-            eprintln!(rt; "asks: {file}: {e}")
+    // Counts the answers, where there was more than one question.
+    fn end(&self, rt: &HostRuntime) -> io::Result<()> {
+        if self.tally.questions() > 1 {
+            rt.println(self.tally)?;
         }
+        Ok(())
     }
-}
-
-// Answers all questions; tells whether there was no error.
-fn show_all(rt: &HostRuntime, files: &[String]) -> io::Result<bool> {
-    let mut session = Session {
-        lent: Lent::new(rt.alloc())?,
-        tally: Tally::new(),
-        good: true,
-    };
-    for file in files {
-        show_file(rt, &mut session, file.as_str())?;
-    }
-    if session.tally.questions() > 1 {
-        rt.println(session.tally)?;
-    }
-    Ok(session.good)
-}
-
-fn run(rt: &HostRuntime) -> io::Result<bool> {
-    let arguments = Arguments::read(rt)?;
-    if let Some(option) = &arguments.unknown {
-        eprintln!(rt; "asks: there is no option {option} (see asks --help)")?;
-        return Ok(false);
-    }
-    if arguments.help {
-        rt.print(HELP)?;
-        return Ok(true);
-    }
-    if arguments.version {
-        rt.print(VERSION)?;
-        return Ok(true);
-    }
-    show_all(rt, arguments.files.as_slice())
 }
 
 fn main(rt: HostRuntime) -> anyhow::Result<ExitCode> {
-    if run(&rt)? {
-        Ok(ExitCode::SUCCESS)
-    } else {
-        // the messages are out already
-        Ok(ExitCode::FAILURE)
-    }
+    Ok(run::<Asks>(&rt)?)
 }
