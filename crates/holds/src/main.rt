@@ -57,7 +57,7 @@ A claim and a memory:
         while let Some(next) = cases.next(heap)? {
             match next {
                 Ok(case) => {
-                    let answer = judge(heap, text, &case)?;
+                    let answer = judge(heap, &case)?;
                     println!(rt; "{answer}")?;
                     if let Answer::Refused = answer {
                         good = false;
