@@ -24,9 +24,9 @@ use std::alloc::{AllocError, Global};
 
 // A claim and a memory that stood in a text.
 #[derive(Drop)]
-pub struct Case {
+pub struct Case<'a> {
     // the claim is the first of this question, and the second says nothing
-    pub asked: Asked,
+    pub asked: Asked<'a>,
     // how many names there are, and then the claim's words
     pub claim: Vec<u32>,
     // the place that each name stands for
@@ -57,7 +57,7 @@ fn claim_words(heap: Global, question: &Question) -> Result<Vec<u32>, AllocError
 }
 
 // The parts of the claim after the word `claim`, with the names numbered, up to the word `memory`.
-fn claim<'a>(scan: &mut Scan<'a>, heap: Global, line: usize) -> Result<Asked, Stop<'a>>
+fn claim<'a>(scan: &mut Scan<'a>, heap: Global, line: usize) -> Result<Asked<'a>, Stop<'a>>
     ensures goes { OnOk result (Goes scan.old scan.new) }
     ensures limits { IfOk result (λ a. Limits (question_of a.question)) }
     ensures as_many { IfOk result (λ a. length a.names.items ≡ a.question.names) }
@@ -78,7 +78,7 @@ fn claim<'a>(scan: &mut Scan<'a>, heap: Global, line: usize) -> Result<Asked, St
 }
 
 // The case that begins here, on this line.
-fn read_case<'a>(scan: &mut Scan<'a>, heap: Global, line: usize) -> Result<Case, Stop<'a>>
+fn read_case<'a>(scan: &mut Scan<'a>, heap: Global, line: usize) -> Result<Case<'a>, Stop<'a>>
     ensures { IfOk result WellRead }
 {
     let text = scan.text;
@@ -139,7 +139,7 @@ impl<'a> Cases<'a> {
     }
 
     // The next case or the error in it, or `None` at the end of the text.
-    pub fn next(&mut self, heap: Global) -> Result<Option<Result<Case, Error<'a>>>, AllocError>
+    pub fn next(&mut self, heap: Global) -> Result<Option<Result<Case<'a>, Error<'a>>>, AllocError>
         ensures same { self.new.text.now ≡ self.old.text.now }
         ensures gives { Gives result }
         ensures advances { Advances self.old result self.new }

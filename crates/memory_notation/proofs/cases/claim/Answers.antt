@@ -7,5 +7,5 @@ pub returns : goal.returns
 returns c = record {
   goes = search rules;
   limits = search rules;
-  as_many = sym (length-map (vec_items c.in_ok-numbered.field-0.names) (spelling _)) ∙ c.in_ok-numbered.ensures.as_many;
+  as_many = sym (length-map (vec_items c.in_ok-numbered.field-0.names) (spelling _)) ∙ c.in_ok-numbered.ensures.accepted.as_many;
 }
