@@ -2,9 +2,10 @@
 ghost use Rattle.std.specs.Prelude.{◌≡◌, IfOk};
 ghost use Rattle.notation.specs.Reading.{Asks, Gives, Advances};
 
+use crate::errors::Error;
 use crate::numbering::{Asked, numbered};
 use crate::places::Place;
-use crate::problems::{Error, Expected, Problem};
+use crate::problems::{Expected, Problem};
 use crate::scans::Scan;
 use crate::spans::Span;
 use crate::stops::{Fault, Stop};
@@ -26,7 +27,7 @@ pub struct Reader<'a> {
 
 impl<'a> Scan<'a> {
     // The question that begins here.
-    fn question(&mut self, heap: Global, line: usize) -> Result<Asked<'a>, Stop<'a>>
+    fn question(&mut self, heap: Global, line: usize) -> Result<Asked<'a>, Stop<Problem<'a>>>
         ensures { IfOk result (Asks self.old.text.now) }
     {
         let text = self.text;
@@ -83,7 +84,7 @@ impl<'a> Scan<'a> {
 
 impl<'a> Reader<'a> {
     // Refuses what is too long to be read, or no text.
-    pub fn new(text: &'a [u8]) -> Result<Reader<'a>, Error<'a>>
+    pub fn new(text: &'a [u8]) -> Result<Reader<'a>, Error<Problem<'a>>>
         ensures { IfOk result (λ reader. reader.text.now ≡ text.now) }
     {
         if text.len() > MOST_BYTES {
@@ -114,7 +115,10 @@ impl<'a> Reader<'a> {
     }
 
     // The next question or the error in it, or `None` at the end of the text.
-    pub fn next(&mut self, heap: Global) -> Result<Option<Result<Asked<'a>, Error<'a>>>, AllocError>
+    pub fn next(
+        &mut self,
+        heap: Global,
+    ) -> Result<Option<Result<Asked<'a>, Error<Problem<'a>>>>, AllocError>
         ensures same { self.new.text.now ≡ self.old.text.now }
         ensures gives { Gives self.old.text.now result }
         ensures advances { Advances self.old result self.new }
@@ -151,7 +155,7 @@ impl<'a> Reader<'a> {
     }
 
     // A fault of the question that began last, with its line and column.
-    fn error(&self, fault: Fault<'a>) -> Error<'a> {
+    fn error<P>(&self, fault: Fault<P>) -> Error<P> {
         let Fault { at, problem } = fault;
         let Place { at, line, column } = self.place.moved(self.text, at);
         Error {
