@@ -22,9 +22,9 @@ impl Tally {
         }
     }
 
-    // Counts a question that was not read.
-    pub fn add_unread(&mut self) {
-        self.unread = self.unread.saturating_add(1);
+    // Counts questions that were not read.
+    pub fn add_unread(&mut self, count: u64) {
+        self.unread = self.unread.saturating_add(count);
     }
 
     // How many questions there were.

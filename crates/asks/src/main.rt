@@ -3,8 +3,8 @@
 #![tactic(auto)]
 
 use answers::{Lent, Tally, ask, page};
-use console::{Program, run};
-use notation::{MOST_BYTES, Reader, report};
+use console::{Program, Source, run};
+use notation::{MOST_BYTES, Reader};
 use std::alloc::{AllocError, Global};
 use std::io;
 use std::process::ExitCode;
@@ -54,31 +54,16 @@ The exit status is 0 if all was read, whatever the answers, and 1 if anything wa
     }
 
     // Answers the questions of the text.
-    fn show_text(&mut self, rt: &HostRuntime, file: &str, text: &[u8]) -> io::Result<bool> {
+    fn show_text(&mut self, rt: &HostRuntime, source: Source<'_>) -> io::Result<bool> {
         let heap = rt.alloc();
-        let mut reader = match Reader::new(text) {
-            Ok(reader) => reader,
-            Err(e) => {
-                rt.eprint(report(heap, file, text, &e)?)?;
-                return Ok(false);
-            }
-        };
-        let mut good = true;
-        while let Some(next) = reader.next(heap)? {
-            match next {
-                Ok(asked) => {
-                    let answer = ask(heap, &asked.question, &mut self.lent)?;
-                    self.tally.add(&answer);
-                    rt.println(page(heap, &asked, &answer)?)?;
-                }
-                Err(e) => {
-                    self.tally.add_unread();
-                    rt.eprint(report(heap, file, text, &e)?)?;
-                    good = false;
-                }
-            }
-        }
-        Ok(good)
+        let unread = source.show_each::<Reader, _>(rt, |asked| {
+            let answer = ask(heap, &asked.question, &mut self.lent)?;
+            self.tally.add(&answer);
+            rt.println(page(heap, &asked, &answer)?)?;
+            Ok(true)
+        })?;
+        self.tally.add_unread(unread.unwrap_or(0));
+        Ok(unread == Some(0))
     }
 
     // Counts the answers, where there was more than one question.

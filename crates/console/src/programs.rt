@@ -1,6 +1,7 @@
 // A program that shows the texts of files: its options and files are read here, and what it shows is its own.
 use crate::commands::Command;
 use crate::inputs::load_named;
+use crate::sources::Source;
 use std::alloc::{AllocError, Global};
 use std::io;
 use std::process::ExitCode;
@@ -19,17 +20,25 @@ pub trait Program: Drop {
     // What goes on from one text to the next.
     fn begin(heap: Global) -> Result<Self, AllocError>;
 
-    // Shows a text, of which `file` is the name; tells whether all of it was read.
-    fn show_text(&mut self, rt: &HostRuntime, file: &str, text: &[u8]) -> io::Result<bool>;
+    // Shows a text; tells whether all of it was read.
+    fn show_text(&mut self, rt: &HostRuntime, source: Source<'_>) -> io::Result<bool>;
 
-    // What stands below the last text.
-    fn end(&self, rt: &HostRuntime) -> io::Result<()>;
+    // Shows what stands below the last text.
+    fn end(&self, _rt: &HostRuntime) -> io::Result<()> {
+        Ok(())
+    }
 }
 
 // Reads one file and shows its text; tells whether all was read.
 fn show_file<P: Program>(rt: &HostRuntime, program: &mut P, file: &str) -> io::Result<bool> {
     match load_named(rt, file, P::MOST_BYTES) {
-        Ok(text) => program.show_text(rt, file, text.as_slice()),
+        Ok(text) => program.show_text(
+            rt,
+            Source {
+                file,
+                text: text.as_slice(),
+            },
+        ),
         Err(e) => {
             let name = P::NAME;
             eprintln!(rt; "{name}: {file}: {e}")?;

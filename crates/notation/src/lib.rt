@@ -19,6 +19,7 @@ pub mod reports;
 pub mod scans;
 pub mod spans;
 pub mod stops;
+pub mod text_readers;
 pub mod tokens;
 pub mod words;
 
@@ -29,3 +30,4 @@ pub use problems::Problem;
 pub use readers::{MOST_BYTES, Reader};
 pub use reports::report;
 pub use spans::Span;
+pub use text_readers::TextReader;

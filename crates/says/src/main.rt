@@ -2,9 +2,9 @@
 // must be so of the names of its first claim.
 #![tactic(auto)]
 
-use console::{Program, run};
+use console::{Program, Source, run};
 use findings::described;
-use notation::{MOST_BYTES, Reader, report};
+use notation::{MOST_BYTES, Reader};
 use std::alloc::{AllocError, Global};
 use std::io;
 use std::process::ExitCode;
@@ -43,30 +43,13 @@ A question, in words or on one line:
     }
 
     // Prints the questions of the text.
-    fn show_text(&mut self, rt: &HostRuntime, file: &str, text: &[u8]) -> io::Result<bool> {
+    fn show_text(&mut self, rt: &HostRuntime, source: Source<'_>) -> io::Result<bool> {
         let heap = rt.alloc();
-        let mut good = true;
-        let mut reader = match Reader::new(text) {
-            Ok(reader) => reader,
-            Err(e) => {
-                rt.eprint(report(heap, file, text, &e)?)?;
-                return Ok(false);
-            }
-        };
-        while let Some(next) = reader.next(heap)? {
-            match next {
-                Ok(asked) => rt.println(described(heap, &asked)?)?,
-                Err(e) => {
-                    rt.eprint(report(heap, file, text, &e)?)?;
-                    good = false;
-                }
-            }
-        }
-        Ok(good)
-    }
-
-    fn end(&self, _rt: &HostRuntime) -> io::Result<()> {
-        Ok(())
+        let failures = source.show_each::<Reader, _>(rt, |asked| {
+            rt.println(described(heap, &asked)?)?;
+            Ok(true)
+        })?;
+        Ok(failures == Some(0))
     }
 }
 
