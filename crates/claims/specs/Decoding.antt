@@ -5,7 +5,7 @@ use Rattle.claims.specs.Claims as claims
 use Rattle.claims.specs.Words.{claim_words, Fits}
 use Rattle.claims.specs.Meaning.{pure_of, atom_of}
 use Rattle.claims.specs.Reading.{HasShape}
-use Rattle.claims.specs.declared.decoding.Decoded.{Decoded}
+use Rattle.claims.specs.declared.decoded.Decoded.{Decoded}
 
 -- the claim whose parts stand at the front of both arrays
 abbrev pub decoded_claim : Decoded → claims.Claim

@@ -7,18 +7,11 @@ ghost use Rattle.claims.specs.Decoding.{PartsRead, ClaimDecoded};
 ghost use Rattle.claims.specs.Meaning.{pure_of, atom_of};
 ghost use Rattle.claims.specs.Words.{pure_words, atom_words, PureBelow, AtomBelow};
 
+use crate::decoded::Decoded;
 use crate::layouts::{MOST_ATOMS, MOST_PURES};
 use crate::names::Name;
 use crate::parts::{Atom, Pure};
 use crate::shapes::Shape;
-
-// A claim's parts: as many of each kind as its shape says, at the front. What stands behind them is any.
-#[derive(Clone, Copy)]
-pub struct Decoded {
-    pub pures: [Pure; 256],
-    pub atoms: [Atom; 64],
-    pub shape: Shape,
-}
 
 // The same and other that the words are, one after the other.
 fn pures(words: &[u32], names: u8) -> Option<[Pure; 256]>

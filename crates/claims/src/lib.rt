@@ -5,6 +5,7 @@
 // question, and `Question::words` puts one together.
 #![tactic(auto)]
 
+pub mod decoded;
 pub mod decoding;
 pub mod layouts;
 pub mod names;
@@ -14,7 +15,8 @@ pub mod shapes;
 #[cfg(test)]
 mod tests;
 
-pub use decoding::{Decoded, decode};
+pub use decoded::Decoded;
+pub use decoding::decode;
 pub use layouts::{Layout, read};
 pub use names::{Name, Place};
 pub use parts::{Atom, Pure};

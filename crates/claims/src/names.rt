@@ -2,6 +2,8 @@
 ghost use Rattle.std.specs.Prelude.{◌≡◌, ◌<◌};
 ghost use Rattle.std.specs.Option.{SomeIff, option_map};
 
+use std::fmt;
+
 // A name (variable) by its number. Name 0 is nowhere (nil).
 #[derive(Clone, Copy, Debug, PartialEq, Eq)]
 pub struct Name(pub u8);
@@ -22,3 +24,13 @@ impl Name {
 // A place in memory (location), from 1. Place 0 is nowhere.
 #[derive(Clone, Copy, Debug, PartialEq, Eq)]
 pub struct Place(pub u32);
+
+// As people read it: its number, or `nowhere`.
+impl fmt::Display for Place {
+    fn fmt<W: fmt::Write>(&self, f: &mut fmt::Formatter<W>) -> fmt::Result {
+        match self.0 {
+            0 => f.write_str("nowhere"),
+            number => write!(f, "{number}"),
+        }
+    }
+}

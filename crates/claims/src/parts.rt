@@ -1,5 +1,6 @@
 // The two kinds of parts that a claim has, and their words: a kind and two names.
 ghost use Rattle.std.specs.Prelude.{◌≡◌, ℕ, length};
+ghost use Rattle.claims.specs.Ends.{left, right, start, end};
 ghost use Rattle.claims.specs.Meaning.{pure_of, atom_of};
 ghost use Rattle.claims.specs.Reading.{PureRead, AtomRead};
 ghost use Rattle.claims.specs.Words.{pure_words, atom_words};
@@ -50,6 +51,16 @@ impl Pure {
             Pure::Other(x, y) => [1, u32::from(x.0), u32::from(y.0)],
         }
     }
+
+    // The two names that it speaks of.
+    pub fn names(self) -> (Name, Name)
+        ensures left { result.0.0 ≡ left (pure_of self) }
+        ensures right { result.1.0 ≡ right (pure_of self) }
+    {
+        match self {
+            Pure::Same(x, y) | Pure::Other(x, y) => (x, y),
+        }
+    }
 }
 
 impl Atom {
@@ -79,6 +90,24 @@ impl Atom {
         match self {
             Atom::Cell(x, y) => [2, u32::from(x.0), u32::from(y.0)],
             Atom::Row(x, y) => [3, u32::from(x.0), u32::from(y.0)],
+        }
+    }
+
+    // The name where it begins.
+    pub fn start(self) -> Name
+        ensures { result.0 ≡ start (atom_of self) }
+    {
+        match self {
+            Atom::Cell(x, _) | Atom::Row(x, _) => x,
+        }
+    }
+
+    // The name that it leads to.
+    pub fn end(self) -> Name
+        ensures { result.0 ≡ end (atom_of self) }
+    {
+        match self {
+            Atom::Cell(_, y) | Atom::Row(_, y) => y,
         }
     }
 }

@@ -7,7 +7,7 @@ use Rattle.claims.specs.Claims.{Claim}
 use Rattle.claims.specs.Words.{claim_words, Fits}
 use Rattle.claims.specs.Memory.{Memory, sound}
 use Rattle.claims.specs.Decoding.{decoded_claim, Decodes}
-use Rattle.claims.specs.declared.decoding.Decoded.{Decoded}
+use Rattle.claims.specs.declared.decoded.Decoded.{Decoded}
 use Rattle.claims.proofs.ClaimWords.{claim_one, length_claim, claim_whole, from}
 use Rattle.memory.specs.Marks.{memory_of}
 use Rattle.memory.specs.Checking.{IsClaim, Asks, Room, Asked, Answer, CheckedPost}

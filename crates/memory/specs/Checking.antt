@@ -4,7 +4,7 @@ use Rattle.claims.specs.Claims.{Claim}
 use Rattle.claims.specs.Words.{claim_words, Fits}
 use Rattle.claims.specs.Memory.{Memory, sound, Says}
 use Rattle.claims.specs.Decoding.{decoded_claim}
-use Rattle.claims.specs.declared.decoding.Decoded.{Decoded}
+use Rattle.claims.specs.declared.decoded.Decoded.{Decoded}
 use Rattle.memory.specs.Marks.{memory_words}
 use Rattle.memory.specs.Judging.{FailsFor}
 use Rattle.memory.specs.Laws.{Precise, RowsJoin}

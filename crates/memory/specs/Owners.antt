@@ -1,17 +1,8 @@
 -- Which atom of a claim, a cell or a row, has the memory's cell at a place.
 use Rattle.std.specs.Prelude.{◌≡◌, ℕ, zero, suc, true, List, ◌∷◌}
 use Rattle.claims.specs.Claims.{Atom, cell, row}
+pub use Rattle.claims.specs.Ends.{start, end}
 use Rattle.claims.specs.Memory.{Names, at, Memory, here, Parts, AtomHolds, Dealt}
-
--- the name that an atom starts at
-abbrev pub start : Atom → ℕ
-start (cell x y) = x
-start (row x y) = x
-
--- the name that it leads to
-abbrev pub end : Atom → ℕ
-end (cell x y) = y
-end (row x y) = y
 
 -- a row whose ends stand for the same: it has no cells
 abbrev pub Empty : Names → Atom → Type 0
