@@ -11,6 +11,24 @@ pub struct Error<P> {
     pub problem: P,
 }
 
+impl<P> Error<P> {
+    // The same error, told as a problem of another kind.
+    pub fn told_as<Q: From<P>>(self) -> Error<Q> {
+        let Error {
+            line,
+            column,
+            at,
+            problem,
+        } = self;
+        Error {
+            line,
+            column,
+            at,
+            problem: Q::from(problem),
+        }
+    }
+}
+
 // LINE:COLUMN: MESSAGE
 impl<P: fmt::Display> fmt::Display for Error<P> {
     fn fmt<W: fmt::Write>(&self, f: &mut fmt::Formatter<W>) -> fmt::Result {
