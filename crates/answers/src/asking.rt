@@ -37,6 +37,7 @@ pub fn ask(heap: Global, question: &Question, lent: &mut Lent) -> Result<Answer,
     ensures { IfOk result (Answers (question_of question.now)) }
 {
     let words = question.words(heap)?;
+    // `decide` has no heap: the words that it works with and the room for what it tells are lent to it
     let mut told = [0u32; ROOM];
     match decide(words.as_slice(), &mut told, lent.words.as_mut_slice()) {
         Decided::Follows => Ok(Answer::Follows),

@@ -17,32 +17,38 @@ const INDENT: &str = "       ";
 #[derive(Drop)]
 struct Lines {
     text: String,
-    // how many columns the last line has; 0 if the next entry begins a line
-    columns: usize,
+    // how many columns the last line has, unless the next entry begins a line
+    columns: Option<usize>,
 }
 
 impl Lines {
     fn new(heap: Global) -> Lines {
         Lines {
             text: String::new(heap),
-            columns: 0,
+            columns: None,
         }
     }
 
     // Lets the next entry begin a line.
     fn end_line(&mut self) {
-        self.columns = 0;
+        self.columns = None;
+    }
+
+    // How many columns the last line has with an entry so wide behind the last one, if there is room for it.
+    fn columns_with(&self, wide: usize) -> Option<usize> {
+        self.columns
+            .map(|columns| columns.saturating_add(2).saturating_add(wide))
+            .filter(|columns| *columns < COLUMNS)
     }
 
     // Puts the entry behind the last one, or at the beginning of the next line.
     fn add(&mut self, entry: &str) -> Result<(), AllocError> {
         let wide = entry.chars().count();
-        let columns = self.columns.saturating_add(2).saturating_add(wide);
-        if self.columns > 0 && columns < COLUMNS {
-            self.columns = columns;
+        if let Some(columns) = self.columns_with(wide) {
+            self.columns = Some(columns);
             return write!(self.text, ", {entry}");
         }
-        self.columns = wide.saturating_add(INDENT.len());
+        self.columns = Some(wide.saturating_add(INDENT.len()));
         if self.text.is_empty() {
             write!(self.text, "{BEGIN}{entry}")
         } else {

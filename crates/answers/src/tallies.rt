@@ -1,4 +1,6 @@
 // How the questions of a run came out.
+ghost use Rattle.std.specs.Prelude.{◌≡◌, ◌+◌, min};
+
 use crate::asking::Answer;
 use std::fmt;
 
@@ -23,7 +25,11 @@ impl Tally {
     }
 
     // Counts questions that were not read.
-    pub fn add_unread(&mut self, count: u64) {
+    pub fn add_unread(&mut self, count: u64)
+        ensures follow { self.new.follow ≡ self.old.follow }
+        ensures fail { self.new.fail ≡ self.old.fail }
+        ensures unread { self.new.unread ≡ min (self.old.unread + count) u64.MAX }
+    {
         self.unread = self.unread.saturating_add(count);
     }
 

@@ -2,8 +2,8 @@
 // whether it holds of its memory, or why not.
 #![tactic(auto)]
 
-use console::{Program, run};
-use memory_notation::{Answer, Cases, judge, report};
+use console::{Program, Source, run};
+use memory_notation::{Answer, Cases, judge};
 use notation::MOST_BYTES;
 use std::alloc::{AllocError, Global};
 use std::io;
@@ -44,36 +44,14 @@ A claim and a memory:
     }
 
     // Answers the cases of the text.
-    fn show_text(&mut self, rt: &HostRuntime, file: &str, text: &[u8]) -> io::Result<bool> {
+    fn show_text(&mut self, rt: &HostRuntime, source: Source<'_>) -> io::Result<bool> {
         let heap = rt.alloc();
-        let mut good = true;
-        let mut cases = match Cases::new(text) {
-            Ok(cases) => cases,
-            Err(e) => {
-                rt.eprint(report(heap, file, text, &e)?)?;
-                return Ok(false);
-            }
-        };
-        while let Some(next) = cases.next(heap)? {
-            match next {
-                Ok(case) => {
-                    let answer = judge(heap, &case)?;
-                    println!(rt; "{answer}")?;
-                    if let Answer::Refused = answer {
-                        good = false;
-                    }
-                }
-                Err(e) => {
-                    rt.eprint(report(heap, file, text, &e)?)?;
-                    good = false;
-                }
-            }
-        }
-        Ok(good)
-    }
-
-    fn end(&self, _rt: &HostRuntime) -> io::Result<()> {
-        Ok(())
+        let failures = source.show_each::<Cases, _>(rt, |case| {
+            let answer = judge(heap, &case)?;
+            rt.println(&answer)?;
+            Ok(!matches!(answer, Answer::Refused))
+        })?;
+        Ok(failures == Some(0))
     }
 }
 

@@ -14,6 +14,7 @@ pub mod memory_texts;
 pub mod problems;
 pub mod sentences;
 pub mod stops;
+mod text_readers;
 
 pub use answers::{Answer, judge};
 pub use cases::{Case, Cases};
