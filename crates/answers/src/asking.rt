@@ -14,6 +14,7 @@ use std::fmt;
 // Room for what is told: a word for each of 64 names, and four for each of the first claim's 64 cells and rows.
 const ROOM: usize = 320;
 
+// No `Option` of an instance: people are told one of these two words.
 #[derive(Drop)]
 pub enum Answer {
     // The second claim holds wherever the first does.

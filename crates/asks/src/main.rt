@@ -4,7 +4,7 @@
 
 use answers::{Lent, Tally, ask, page};
 use console::{Program, Source, run};
-use notation::{MOST_BYTES, Reader};
+use notation::Reader;
 use std::alloc::{AllocError, Global};
 use std::io;
 use std::process::ExitCode;
@@ -43,8 +43,6 @@ A question, in words or on one line:
 
 The exit status is 0 if all was read, whatever the answers, and 1 if anything was not.
 ";
-
-    const MOST_BYTES: usize = MOST_BYTES;
 
     fn begin(heap: Global) -> Result<Asks, AllocError> {
         Ok(Asks {

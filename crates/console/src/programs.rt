@@ -2,6 +2,7 @@
 use crate::commands::Command;
 use crate::inputs::load_named;
 use crate::sources::Source;
+use notation::MOST_BYTES;
 use std::alloc::{AllocError, Global};
 use std::io;
 use std::process::ExitCode;
@@ -13,9 +14,6 @@ pub trait Program: Drop {
     const VERSION: &'static str;
 
     const HELP: &'static str;
-
-    // The most bytes of a text that is read.
-    const MOST_BYTES: usize;
 
     // What goes on from one text to the next.
     fn begin(heap: Global) -> Result<Self, AllocError>;
@@ -31,14 +29,11 @@ pub trait Program: Drop {
 
 // Reads one file and shows its text; tells whether all was read.
 fn show_file<P: Program>(rt: &HostRuntime, program: &mut P, file: &str) -> io::Result<bool> {
-    match load_named(rt, file, P::MOST_BYTES) {
-        Ok(text) => program.show_text(
-            rt,
-            Source {
-                file,
-                text: text.as_slice(),
-            },
-        ),
+    match load_named(rt, file, MOST_BYTES) {
+        Ok(text) => {
+            let text = text.as_slice();
+            program.show_text(rt, Source { file, text })
+        }
         Err(e) => {
             let name = P::NAME;
             eprintln!(rt; "{name}: {file}: {e}")?;

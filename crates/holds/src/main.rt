@@ -4,7 +4,6 @@
 
 use console::{Program, Source, run};
 use memory_notation::{Answer, Cases, judge};
-use notation::MOST_BYTES;
 use std::alloc::{AllocError, Global};
 use std::io;
 use std::process::ExitCode;
@@ -36,8 +35,6 @@ A claim and a memory:
 
 `nothing` stands for a claim or a memory without entries.
 ";
-
-    const MOST_BYTES: usize = MOST_BYTES;
 
     fn begin(_heap: Global) -> Result<Holds, AllocError> {
         Ok(Holds)

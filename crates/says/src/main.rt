@@ -4,7 +4,7 @@
 
 use console::{Program, Source, run};
 use findings::described;
-use notation::{MOST_BYTES, Reader};
+use notation::Reader;
 use std::alloc::{AllocError, Global};
 use std::io;
 use std::process::ExitCode;
@@ -35,8 +35,6 @@ A question, in words or on one line:
 
   a |-> b * ls(b, nil) |- a != nil * ls(a, nil)
 ";
-
-    const MOST_BYTES: usize = MOST_BYTES;
 
     fn begin(_heap: Global) -> Result<Says, AllocError> {
         Ok(Says)
