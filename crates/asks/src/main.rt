@@ -2,9 +2,12 @@
 // second? Where it does not, a memory shows it.
 #![tactic(auto)]
 
+ghost use Rattle.claims.specs.Meaning.{question_of};
+ghost use Rattle.claims.specs.Words.{Limits};
+
 use answers::{Lent, Tally, ask, page};
 use console::{Program, Source, run};
-use notation::Reader;
+use notation::{Asked, Reader};
 use std::alloc::{AllocError, Global};
 use std::io;
 use std::process::ExitCode;
@@ -14,6 +17,18 @@ use std::process::ExitCode;
 struct Asks {
     lent: Lent,
     tally: Tally,
+}
+
+impl Asks {
+    // Answers one question.
+    fn show(&mut self, rt: &HostRuntime, asked: &Asked) -> io::Result<()>
+        requires { Limits (question_of asked.now.question) }
+    {
+        let heap = rt.alloc();
+        let answer = ask(heap, &asked.question, &mut self.lent)?;
+        self.tally.add(&answer);
+        rt.println(page(heap, asked, &answer)?)
+    }
 }
 
 impl Program for Asks {
@@ -53,13 +68,13 @@ The exit status is 0 if all was read, whatever the answers, and 1 if anything wa
 
     // Answers the questions of the text.
     fn show_text(&mut self, rt: &HostRuntime, source: Source<'_>) -> io::Result<bool> {
-        let heap = rt.alloc();
-        let unread = source.show_each::<Reader, _>(rt, |asked| {
-            let answer = ask(heap, &asked.question, &mut self.lent)?;
-            self.tally.add(&answer);
-            rt.println(page(heap, &asked, &answer)?)?;
+        let answer = |asked: Asked<'_>|
+            requires { Limits (question_of asked.question) }
+        {
+            self.show(rt, &asked)?;
             Ok(true)
-        })?;
+        };
+        let unread = source.show_each::<Reader, _>(rt, answer)?;
         self.tally.add_unread(unread.unwrap_or(0));
         Ok(unread == Some(0))
     }
