@@ -14,6 +14,7 @@ use std::fmt;
 // Room for what is told: a word for each of 64 names, and four for each of the first claim's 64 cells and rows.
 const ROOM: usize = 320;
 
+// No `Option` of an instance: people are told one of these two words.
 #[derive(Drop)]
 pub enum Answer {
     // The second claim holds wherever the first does.
@@ -37,6 +38,7 @@ pub fn ask(heap: Global, question: &Question, lent: &mut Lent) -> Result<Answer,
     ensures { IfOk result (Answers (question_of question.now)) }
 {
     let words = question.words(heap)?;
+    // `decide` has no heap: the words that it works with and the room for what it tells are lent to it
     let mut told = [0u32; ROOM];
     match decide(words.as_slice(), &mut told, lent.words.as_mut_slice()) {
         Decided::Follows => Ok(Answer::Follows),

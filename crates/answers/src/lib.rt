@@ -5,7 +5,6 @@
 #![tactic(auto)]
 
 pub mod asking;
-pub mod counts;
 pub mod instances;
 pub mod lending;
 pub mod memories;

@@ -1,8 +1,10 @@
 // How the questions of a run came out.
+ghost use Rattle.std.specs.Prelude.{◌≡◌, ◌+◌, min};
+
 use crate::asking::Answer;
 use std::fmt;
 
-#[derive(Clone, Copy)]
+#[derive(Clone, Copy, Debug, Default, PartialEq, Eq)]
 pub struct Tally {
     pub follow: u64,
     pub fail: u64,
@@ -11,11 +13,7 @@ pub struct Tally {
 
 impl Tally {
     pub fn new() -> Tally {
-        Tally {
-            follow: 0,
-            fail: 0,
-            unread: 0,
-        }
+        Tally::default()
     }
 
     // Counts a question with its answer.
@@ -26,9 +24,13 @@ impl Tally {
         }
     }
 
-    // Counts a question that was not read.
-    pub fn add_unread(&mut self) {
-        self.unread = self.unread.saturating_add(1);
+    // Counts questions that were not read.
+    pub fn add_unread(&mut self, count: u64)
+        ensures follow { self.new.follow ≡ self.old.follow }
+        ensures fail { self.new.fail ≡ self.old.fail }
+        ensures unread { self.new.unread ≡ min (self.old.unread + count) u64.MAX }
+    {
+        self.unread = self.unread.saturating_add(count);
     }
 
     // How many questions there were.
@@ -43,9 +45,11 @@ impl Tally {
 impl fmt::Display for Tally {
     fn fmt<W: fmt::Write>(&self, f: &mut fmt::Formatter<W>) -> fmt::Result {
         let questions = self.questions();
-        let follow = self.follow;
-        let fail = self.fail;
-        let unread = self.unread;
+        let Tally {
+            follow,
+            fail,
+            unread,
+        } = *self;
         write!(f, "# {questions} questions: {follow} follow, {fail} fail")?;
         if unread > 0 {
             write!(f, ", {unread} not read")?;

@@ -42,19 +42,16 @@ fn judged(heap: Global, words: &[u32], instance: &Instance) -> Result<Outcome, A
         return Ok(Outcome::NoQuestion);
     };
     let end = 1 + layout.first.len();
-    let mut second = Vec::new(heap);
-    for (i, word) in words.iter().enumerate() {
-        if i == 0 || i >= end {
-            second.push(*word)?;
-        }
-    }
-    if end > words.len() || holds(&words[0..end], instance) != Some(true) {
-        return Ok(Outcome::Wrong);
-    }
-    if holds(second.as_slice(), instance) != Some(false) {
-        return Ok(Outcome::Wrong);
-    }
-    Ok(Outcome::Fails(instance.memory.len() / 2))
+    // the number of names stands in front of each claim
+    let first: Vec<u32> = words.iter().take(end).copied().collect(heap)?;
+    let rest = words.iter().skip(end);
+    let second: Vec<u32> = words.iter().take(1).chain(rest).copied().collect(heap)?;
+    let first_holds = holds(first.as_slice(), instance);
+    let second_holds = holds(second.as_slice(), instance);
+    Ok(match (first_holds, second_holds) {
+        (Some(true), Some(false)) => Outcome::Fails(instance.memory.len() / 2),
+        _ => Outcome::Wrong,
+    })
 }
 
 // The answer to a question, with a second opinion.
@@ -76,12 +73,9 @@ fn found(heap: Global, text: &str) -> Result<Outcome, AllocError> {
     let Ok(mut reader) = Reader::new(text.as_bytes()) else {
         return Ok(Outcome::NoQuestion);
     };
-    let Some(next) = reader.next(heap)? else {
-        return Ok(Outcome::NoQuestion);
-    };
-    match next {
-        Ok(next) => asked(heap, &next.question),
-        Err(_) => Ok(Outcome::NoQuestion),
+    match reader.next(heap)? {
+        Some(Ok(next)) => asked(heap, &next.question),
+        _ => Ok(Outcome::NoQuestion),
     }
 }
 

@@ -2,15 +2,41 @@
 // second? Where it does not, a memory shows it.
 #![tactic(auto)]
 
+ghost use Rattle.claims.specs.Meaning.{question_of};
+ghost use Rattle.claims.specs.Words.{Limits};
+
 use answers::{Lent, Tally, ask, page};
-use console::{Arguments, load_named};
-use notation::{MOST_BYTES, Reader, report};
+use console::{Program, Source, run};
+use notation::{Asked, Reader};
+use std::alloc::{AllocError, Global};
 use std::io;
 use std::process::ExitCode;
 
-const VERSION: &str = "asks 0.2, proved with rattle-kit-13f logic dac8208d650f15bf\n";
+// What goes on from one question to the next.
+#[derive(Drop)]
+struct Asks {
+    lent: Lent,
+    tally: Tally,
+}
 
-const HELP: &str = "usage: asks [FILE..]
+impl Asks {
+    // Answers one question.
+    fn show(&mut self, rt: &HostRuntime, asked: &Asked) -> io::Result<()>
+        requires { Limits (question_of asked.now.question) }
+    {
+        let heap = rt.alloc();
+        let answer = ask(heap, &asked.question, &mut self.lent)?;
+        self.tally.add(&answer);
+        rt.println(page(heap, asked, &answer)?)
+    }
+}
+
+impl Program for Asks {
+    const NAME: &'static str = "asks";
+
+    const VERSION: &'static str = "asks 0.2, proved with rattle-kit-13f logic dac8208d650f15bf\n";
+
+    const HELP: &'static str = "usage: asks [FILE..]
 
 Reads questions about linked cells from the files, or from standard input, and answers each:
 does the first claim say the second? The first line is `follows` or `fails`. Below it stand the
@@ -33,91 +59,35 @@ A question, in words or on one line:
 The exit status is 0 if all was read, whatever the answers, and 1 if anything was not.
 ";
 
-// What goes on from one question to the next.
-#[derive(Drop)]
-struct Session {
-    lent: Lent,
-    tally: Tally,
-    // was all read so far?
-    good: bool,
-}
+    fn begin(heap: Global) -> Result<Asks, AllocError> {
+        Ok(Asks {
+            lent: Lent::new(heap)?,
+            tally: Tally::default(),
+        })
+    }
 
-// Answers the questions of one text.
-fn show_text(rt: &HostRuntime, session: &mut Session, file: &str, text: &[u8]) -> io::Result<()> {
-    let heap = rt.alloc();
-    let mut reader = match Reader::new(text) {
-        Ok(reader) => reader,
-        Err(e) => {
-            session.good = false;
-            return rt.eprint(report(heap, file, text, &e)?);
+    // Answers the questions of the text.
+    fn show_text(&mut self, rt: &HostRuntime, source: Source<'_>) -> io::Result<bool> {
+        let answer = |asked: Asked<'_>|
+            requires { Limits (question_of asked.question) }
+        {
+            self.show(rt, &asked)?;
+            Ok(true)
+        };
+        let unread = source.show_each::<Reader, _>(rt, answer)?;
+        self.tally.add_unread(unread.unwrap_or(0));
+        Ok(unread == Some(0))
+    }
+
+    // Counts the answers, where there was more than one question.
+    fn end(&self, rt: &HostRuntime) -> io::Result<()> {
+        if self.tally.questions() > 1 {
+            rt.println(self.tally)?;
         }
-    };
-    while let Some(next) = reader.next(heap)? {
-        match next {
-            Ok(asked) => {
-                let answer = ask(heap, &asked.question, &mut session.lent)?;
-                session.tally.add(&answer);
-                rt.println(page(heap, text, &asked, &answer)?)?;
-            }
-            Err(e) => {
-                session.good = false;
-                session.tally.add_unread();
-                rt.eprint(report(heap, file, text, &e)?)?;
-            }
-        }
+        Ok(())
     }
-    Ok(())
-}
-
-// Reads one file and answers its questions.
-fn show_file(rt: &HostRuntime, session: &mut Session, file: &str) -> io::Result<()> {
-    match load_named(rt, file, MOST_BYTES) {
-        Ok(text) => show_text(rt, session, file, text.as_slice()),
-        Err(e) => {
-            session.good = false;
-            eprintln!(rt; "asks: {file}: {e}")
-        }
-    }
-}
-
-// Answers all questions; tells whether there was no error.
-fn show_all(rt: &HostRuntime, files: &[String]) -> io::Result<bool> {
-    let mut session = Session {
-        lent: Lent::new(rt.alloc())?,
-        tally: Tally::new(),
-        good: true,
-    };
-    for file in files {
-        show_file(rt, &mut session, file.as_str())?;
-    }
-    if session.tally.questions() > 1 {
-        rt.println(session.tally)?;
-    }
-    Ok(session.good)
-}
-
-fn run(rt: &HostRuntime) -> io::Result<bool> {
-    let arguments = Arguments::read(rt)?;
-    if let Some(option) = &arguments.unknown {
-        eprintln!(rt; "asks: there is no option {option} (see asks --help)")?;
-        return Ok(false);
-    }
-    if arguments.help {
-        rt.print(HELP)?;
-        return Ok(true);
-    }
-    if arguments.version {
-        rt.print(VERSION)?;
-        return Ok(true);
-    }
-    show_all(rt, arguments.files.as_slice())
 }
 
 fn main(rt: HostRuntime) -> anyhow::Result<ExitCode> {
-    if run(&rt)? {
-        Ok(ExitCode::SUCCESS)
-    } else {
-        // the messages are out already
-        Ok(ExitCode::FAILURE)
-    }
+    Ok(run::<Asks>(&rt)?)
 }

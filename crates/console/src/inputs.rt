@@ -41,17 +41,17 @@ pub fn load<R: Read>(heap: Global, reader: &mut R, most: usize) -> Result<Vec<u8
 {
     let mut all = Vec::with_capacity(heap, most)?;
     let mut part = [0u8; 65536];
-    for _ in 0..u64::MAX {
-        let n = reader.read(&mut part)?;
-        if n == 0 {
-            break;
+    // not `take` and `read_to_end`: they don't say how much they read where the reader's bytes are not known
+    loop {
+        let count = reader.read(&mut part)?;
+        if count == 0 {
+            return Ok(all);
         }
-        if n > most - all.len() {
+        if count > most - all.len() {
             return Err(Unread::TooLarge(most));
         }
-        all.extend_from_slice(&part[0..n])?;
+        all.extend_from_slice(&part[..count])?;
     }
-    Ok(all)
 }
 
 // The text of the file, or of standard input where the name is `-`.

@@ -5,7 +5,6 @@ use Rattle.claims.specs.Meaning.{claim_of}
 use Rattle.memory.specs.Checking.{IsClaim}
 use Rattle.memory_notation.specs.declared.cases.Case.{Case}
 use Rattle.memory_notation.specs.declared.cases.Cases.{Cases}
-use Rattle.memory_notation.specs.declared.problems.Error.{Error}
 
 -- the words of the claim are those of its parts, over the names that were numbered, and each of these has a place
 pub record WellRead (c : Case) : Type 0 where
@@ -13,7 +12,7 @@ pub record WellRead (c : Case) : Type 0 where
   pub names_are : length (vec_items c.names) ≡ c.asked.question.names
 
 -- each case of a text is one that is well read
-abbrev pub Gives : Result (Option (Result Case Error)) AllocError → Type 0
+abbrev pub Gives : {E : Type 0} → Result (Option (Result Case E)) AllocError → Type 0
 Gives (Ok (Some (Ok c))) = WellRead c
 Gives (Ok (Some (Err e))) = Unit {0}
 Gives (Ok None) = Unit {0}
@@ -24,7 +23,7 @@ abbrev pub left : Cases → ℕ
 left r = length r.text.now - r.at
 
 -- unless it is the end, less of the text is left
-abbrev pub Advances : Cases → Result (Option (Result Case Error)) AllocError → Cases → Type 0
+abbrev pub Advances : {E : Type 0} → Cases → Result (Option (Result Case E)) AllocError → Cases → Type 0
 Advances before (Ok (Some x)) after = left after < left before
 Advances before (Ok None) after = Unit {0}
 Advances before (Err e) after = Unit {0}

@@ -27,8 +27,8 @@ impl fmt::Display for Answer {
     }
 }
 
-// Does the claim of the case, which stood in the text, hold of its memory?
-pub fn judge<'a>(heap: Global, text: &'a [u8], case: &'a Case) -> Result<Answer, AllocError>
+// Does the claim of the case hold of its memory?
+pub fn judge(heap: Global, case: &Case) -> Result<Answer, AllocError>
     ensures { IfOk result (Answered case.now) }
 {
     let mut work = vec![in heap; 0u32; case.memory.len() / 2]?;
@@ -40,7 +40,7 @@ pub fn judge<'a>(heap: Global, text: &'a [u8], case: &'a Case) -> Result<Answer,
     );
     match checked {
         Checked::Holds => Ok(Answer::Holds),
-        Checked::Fails(why) => Ok(Answer::Fails(sentence(heap, text, case, why)?)),
+        Checked::Fails(why) => Ok(Answer::Fails(sentence(heap, case, why)?)),
         _ => Ok(Answer::Refused),
     }
 }

@@ -11,22 +11,22 @@ use crate::claim_texts::parts;
 use crate::items::{Sort, peek, take};
 use crate::memory_texts::read_entries;
 use crate::problems::{Error, Expected, Problem};
-use crate::stops::{Fault, Stop, missing};
+use crate::stops::Stop;
 use claims::Question;
 use notation::drafts::Draft;
 use notation::numbering::numbered;
 use notation::places::Place;
-use notation::problems::Error as SharedError;
 use notation::scans::Scan;
+use notation::stops::Fault;
 use notation::tokens::Kind;
 use notation::{Asked, Reader, Span};
 use std::alloc::{AllocError, Global};
 
 // A claim and a memory that stood in a text.
 #[derive(Drop)]
-pub struct Case {
+pub struct Case<'a> {
     // the claim is the first of this question, and the second says nothing
-    pub asked: Asked,
+    pub asked: Asked<'a>,
     // how many names there are, and then the claim's words
     pub claim: Vec<u32>,
     // the place that each name stands for
@@ -57,7 +57,7 @@ fn claim_words(heap: Global, question: &Question) -> Result<Vec<u32>, AllocError
 }
 
 // The parts of the claim after the word `claim`, with the names numbered, up to the word `memory`.
-fn claim<'a>(scan: &mut Scan<'a>, heap: Global, line: usize) -> Result<Asked, Stop<'a>>
+fn claim<'a>(scan: &mut Scan<'a>, heap: Global, line: usize) -> Result<Asked<'a>, Stop<'a>>
     ensures goes { OnOk result (Goes scan.old scan.new) }
     ensures limits { IfOk result (λ a. Limits (question_of a.question)) }
     ensures as_many { IfOk result (λ a. length a.names.items ≡ a.question.names) }
@@ -65,20 +65,23 @@ fn claim<'a>(scan: &mut Scan<'a>, heap: Global, line: usize) -> Result<Asked, St
     let before = *scan;
     let item = take(scan);
     let Sort::Claim = item.sort else {
-        return Err(missing(&before, Expected::Claim, before.last, item.token));
+        return Err(before.missing(Expected::Claim, before.last, item.token));
     };
     let draft = parts(scan, heap)?;
     let after = *scan;
     let item = take(scan);
     let Sort::Memory = item.sort else {
-        return Err(missing(&after, Expected::Memory, after.last, item.token));
+        return Err(after.missing(Expected::Memory, after.last, item.token));
     };
     let none = Draft::new(heap);
-    Ok(numbered(heap, before.text, line, &draft, &none)?)
+    match numbered(heap, before.text, line, &draft, &none) {
+        Ok(asked) => Ok(asked),
+        Err(stop) => Err(stop.told_as()),
+    }
 }
 
 // The case that begins here, on this line.
-fn read_case<'a>(scan: &mut Scan<'a>, heap: Global, line: usize) -> Result<Case, Stop<'a>>
+fn read_case<'a>(scan: &mut Scan<'a>, heap: Global, line: usize) -> Result<Case<'a>, Stop<'a>>
     ensures { IfOk result WellRead }
 {
     let text = scan.text;
@@ -86,7 +89,7 @@ fn read_case<'a>(scan: &mut Scan<'a>, heap: Global, line: usize) -> Result<Case,
     let entries = read_entries(scan, heap, asked.names.as_slice())?;
     let item = peek(scan);
     if let Sort::Memory = item.sort {
-        return Err(missing(scan, Expected::EntryOrClaim, scan.last, item.token));
+        return Err(scan.missing(Expected::EntryOrClaim, scan.last, item.token));
     }
     let claim = claim_words(heap, &asked.question)?;
     let names = entries.name_words(heap, text, asked.names.as_slice())?;
@@ -115,18 +118,7 @@ impl<'a> Cases<'a> {
     // Refuses what is too long to be read, or no text.
     pub fn new(text: &'a [u8]) -> Result<Cases<'a>, Error<'a>> {
         if let Err(e) = Reader::new(text) {
-            let SharedError {
-                line,
-                column,
-                at,
-                problem,
-            } = e;
-            return Err(Error {
-                line,
-                column,
-                at,
-                problem: Problem::Shared(problem),
-            });
+            return Err(e.told_as());
         }
         // some editors begin a text with this mark, which is no part of it
         let at = if let [0xef, 0xbb, 0xbf, ..] = text {
@@ -139,7 +131,7 @@ impl<'a> Cases<'a> {
     }
 
     // The next case or the error in it, or `None` at the end of the text.
-    pub fn next(&mut self, heap: Global) -> Result<Option<Result<Case, Error<'a>>>, AllocError>
+    pub fn next(&mut self, heap: Global) -> Result<Option<Result<Case<'a>, Error<'a>>>, AllocError>
         ensures same { self.new.text.now ≡ self.old.text.now }
         ensures gives { Gives result }
         ensures advances { Advances self.old result self.new }
@@ -166,7 +158,7 @@ impl<'a> Cases<'a> {
     }
 
     // A fault of the case that began last, with its line and column.
-    fn error(&self, fault: Fault<'a>) -> Error<'a> {
+    fn error(&self, fault: Fault<Problem<'a>>) -> Error<'a> {
         let Fault { at, problem } = fault;
         let Place { at, line, column } = self.place.moved(self.text, at);
         Error {

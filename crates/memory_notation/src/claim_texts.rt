@@ -4,7 +4,7 @@ ghost use Rattle.notation.specs.Steps.{Goes, Passes};
 
 use crate::items::{Sort, peek, take};
 use crate::problems::{Expected, Problem};
-use crate::stops::{Stop, missing};
+use crate::stops::Stop;
 use notation::drafts::{Draft, DraftAtom, DraftPure, Mention, Pair, Part};
 use notation::problems::Problem as SharedProblem;
 use notation::scans::Scan;
@@ -24,9 +24,9 @@ fn name<'a>(scan: &mut Scan<'a>, from: usize) -> Result<Mention, Stop<'a>>
 {
     let item = peek(scan);
     if let Sort::Claim | Sort::Memory = item.sort {
-        return Err(scan.reserved(from, item.token).into());
+        return Err(scan.reserved(from, item.token).told_as());
     }
-    Ok(scan.mention(from)?)
+    scan.mention(from).map_err(|stop| stop.told_as())
 }
 
 // A part, of which `expected` says what it may be.
@@ -38,13 +38,13 @@ fn part<'a>(scan: &mut Scan<'a>, expected: Expected) -> Result<Part, Stop<'a>>
     let token = item.token;
     let from = token.span.start;
     let Sort::Shared(kind) = item.sort else {
-        return Err(missing(&before, expected, before.last, token));
+        return Err(before.missing(expected, before.last, token));
     };
     match kind {
         Kind::Same | Kind::Other | Kind::Cell | Kind::Row => {}
-        Kind::Name => return Err(before.unknown(token).into()),
+        Kind::Name => return Err(before.unknown(token).told_as()),
         Kind::Nothing => return Err(Stop::at(from, Problem::Shared(SharedProblem::NotAlone))),
-        _ => return Err(missing(&before, expected, before.last, token)),
+        _ => return Err(before.missing(expected, before.last, token)),
     }
     let left = name(scan, from)?;
     let right = name(scan, from)?;
@@ -76,7 +76,7 @@ pub fn after<'a>(scan: &mut Scan<'a>, from: usize) -> Result<Next, Stop<'a>>
                 _ => Ok(Next::More),
             }
         }
-        _ => Err(missing(scan, Expected::CommaOrLine, from, item.token)),
+        _ => Err(scan.missing(Expected::CommaOrLine, from, item.token)),
     }
 }
 
@@ -110,7 +110,9 @@ pub fn parts<'a>(scan: &mut Scan<'a>, heap: Global) -> Result<Draft, Stop<'a>>
     let mut expected = Expected::PartOrNothing;
     loop {
         let from = scan.peek().span.start;
-        draft.add(part(scan, expected)?, from)?;
+        draft
+            .add(part(scan, expected)?, from)
+            .map_err(|stop| stop.told_as())?;
         let Next::More = after(scan, from)? else {
             return Ok(draft);
         };

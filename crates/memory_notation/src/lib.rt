@@ -12,11 +12,11 @@ pub mod entries;
 pub mod items;
 pub mod memory_texts;
 pub mod problems;
-pub mod reports;
 pub mod sentences;
 pub mod stops;
+mod text_readers;
 
 pub use answers::{Answer, judge};
 pub use cases::{Case, Cases};
+pub use notation::report;
 pub use problems::{Error, Problem};
-pub use reports::report;

@@ -6,7 +6,7 @@ use crate::claim_texts::{Next, after, nothing};
 use crate::entries::{Cell, Entries, Entry};
 use crate::items::{Sort, take};
 use crate::problems::{Expected, Problem};
-use crate::stops::{Stop, missing};
+use crate::stops::Stop;
 use notation::Span;
 use notation::problems::Problem as SharedProblem;
 use notation::quotes::Quote;
@@ -48,7 +48,7 @@ fn place<'a>(scan: &mut Scan<'a>, from: usize) -> Result<u32, Stop<'a>>
     let item = take(scan);
     match item.sort {
         Sort::Shared(Kind::Name | Kind::Nowhere) => place_of(scan.text, item.token),
-        _ => Err(missing(&before, Expected::Place, from, item.token)),
+        _ => Err(before.missing(Expected::Place, from, item.token)),
     }
 }
 
@@ -64,7 +64,7 @@ fn first_word<'a>(scan: &mut Scan<'a>, expected: Expected) -> Result<Token, Stop
             item.token.span.start,
             Problem::Shared(SharedProblem::NotAlone),
         )),
-        _ => Err(missing(&before, expected, before.last, item.token)),
+        _ => Err(before.missing(expected, before.last, item.token)),
     }
 }
 
@@ -85,12 +85,12 @@ fn entry<'a>(scan: &mut Scan<'a>, expected: Expected) -> Result<Entry, Stop<'a>>
         }
         Sort::Shared(Kind::Equals) => {
             if let Kind::Nowhere = word.kind {
-                return Err(missing(&before, Expected::Name, before.last, word));
+                return Err(before.missing(Expected::Name, before.last, word));
             }
             let place = place(scan, from)?;
             Ok(Entry::Name(word.span, place))
         }
-        _ => Err(missing(&middle, Expected::EqualsOrArrow, from, sign.token)),
+        _ => Err(middle.missing(Expected::EqualsOrArrow, from, sign.token)),
     }
 }
 

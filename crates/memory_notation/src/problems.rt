@@ -1,5 +1,5 @@
 // What can be wrong with a text, in words for people.
-use notation::problems::{Found, Problem as SharedProblem};
+use notation::problems::{Missing, Problem as SharedProblem};
 use notation::quotes::Quote;
 use std::fmt;
 
@@ -23,8 +23,7 @@ pub enum Expected {
 pub enum Problem<'a> {
     // one that a question can have as well
     Shared(SharedProblem<'a>),
-    // what should follow on what, and what was found
-    Missing(Expected, Quote<'a>, Found<'a>),
+    Missing(Missing<'a, Expected>),
     ManyNames(Quote<'a>),
     // a name of the claim that the memory gives no place
     NoPlace(Quote<'a>),
@@ -36,15 +35,7 @@ pub enum Problem<'a> {
     ManyCells,
 }
 
-// A problem and where it is. Lines and columns count from 1, and columns count characters.
-#[derive(Clone, Copy)]
-pub struct Error<'a> {
-    pub line: usize,
-    pub column: usize,
-    // the byte of the text
-    pub at: usize,
-    pub problem: Problem<'a>,
-}
+pub type Error<'a> = notation::Error<Problem<'a>>;
 
 impl fmt::Display for Expected {
     fn fmt<W: fmt::Write>(&self, f: &mut fmt::Formatter<W>) -> fmt::Result {
@@ -64,18 +55,27 @@ impl fmt::Display for Expected {
     }
 }
 
+impl<'a> From<Missing<'a, Expected>> for Problem<'a> {
+    fn from(missing: Missing<'a, Expected>) -> Problem<'a> {
+        Problem::Missing(missing)
+    }
+}
+
+// A claim has no more names than a question, and it is told of the claim.
+impl<'a> From<SharedProblem<'a>> for Problem<'a> {
+    fn from(problem: SharedProblem<'a>) -> Problem<'a> {
+        match problem {
+            SharedProblem::ManyNames(name) => Problem::ManyNames(name),
+            problem => Problem::Shared(problem),
+        }
+    }
+}
+
 impl fmt::Display for Problem<'_> {
     fn fmt<W: fmt::Write>(&self, f: &mut fmt::Formatter<W>) -> fmt::Result {
         match self {
             Problem::Shared(problem) => write!(f, "{problem}"),
-            Problem::Missing(expected, before, found) if before.is_empty() => write!(
-                f,
-                "expected {expected}, found {found}"
-            ),
-            Problem::Missing(expected, before, found) => write!(
-                f,
-                "expected {expected} after {before}, found {found}"
-            ),
+            Problem::Missing(missing) => write!(f, "{missing}"),
             Problem::ManyNames(name) => write!(
                 f,
                 "{name} is one name too many: a claim has at most 64 names, counting nowhere"

@@ -67,24 +67,17 @@ fn target(memory: &[u32], place: Place) -> Option<Place> {
     None
 }
 
-// What the sentences speak of.
-#[derive(Clone, Copy)]
-struct Teller<'a> {
-    text: &'a [u8],
-    case: &'a Case,
-}
-
-impl<'a> Teller<'a> {
+impl<'a> Case<'a> {
     fn spelled(&self, name: Name) -> Spelled<'a> {
         let i = usize::from(name.0);
-        match self.case.asked.names.get(i) {
-            Some(span) if i > 0 => Spelled::new(span.of(self.text)),
+        match self.asked.names.get(i) {
+            Some(span) if i > 0 => Spelled::new(span.of(self.asked.text)),
             _ => Spelled::new(b"nowhere"),
         }
     }
 
     fn place(&self, name: Name) -> Place {
-        at(self.case.names.as_slice(), name)
+        at(self.names.as_slice(), name)
     }
 
     fn same(&self, heap: Global, x: Name, y: Name) -> Result<String, AllocError> {
@@ -113,7 +106,7 @@ impl<'a> Teller<'a> {
         let b = self.spelled(y);
         let from = Shown(self.place(x));
         let to = Shown(self.place(y));
-        let Some(place) = target(self.case.memory.as_slice(), from.0) else {
+        let Some(place) = target(self.memory.as_slice(), from.0) else {
             return format!(in heap; "`cell {a} {b}` finds no cell at {from}");
         };
         if place == to.0 {
@@ -147,7 +140,7 @@ impl<'a> Teller<'a> {
     }
 
     fn left_over(&self, heap: Global, i: usize) -> Result<String, AllocError> {
-        let place = match self.case.memory.as_slice().chunks(2).nth(i) {
+        let place = match self.memory.as_slice().chunks(2).nth(i) {
             Some([at, ..]) => *at,
             _ => 0,
         };
@@ -155,27 +148,21 @@ impl<'a> Teller<'a> {
     }
 }
 
-// Why the claim of the case, which stood in the text, doesn't hold.
-pub fn sentence<'a>(
-    heap: Global,
-    text: &'a [u8],
-    case: &'a Case,
-    why: Why,
-) -> Result<String, AllocError> {
-    let teller = Teller { text, case };
+// Why the claim of the case doesn't hold.
+pub fn sentence(heap: Global, case: &Case, why: Why) -> Result<String, AllocError> {
     let claim = &case.asked.question.first;
     match why {
         Why::Pure(i) => {
             if let Some(pure) = claim.pures.get(i) {
-                return teller.pure(heap, *pure);
+                return case.pure(heap, *pure);
             }
         }
         Why::Stuck(i, stuck) => {
             if let Some(atom) = claim.atoms.get(i) {
-                return teller.atom(heap, *atom, stuck);
+                return case.atom(heap, *atom, stuck);
             }
         }
-        Why::LeftOver(i) => return teller.left_over(heap, i),
+        Why::LeftOver(i) => return case.left_over(heap, i),
     }
     String::from_str(heap, "a part isn't so")
 }

@@ -66,7 +66,7 @@ impl Draft {
     }
 
     // Adds the part, which stands at `at` in the text, or refuses one too many.
-    pub fn add<'a>(&mut self, part: Part, at: usize) -> Result<(), Stop<'a>> {
+    pub fn add<'a>(&mut self, part: Part, at: usize) -> Result<(), Stop<Problem<'a>>> {
         match part {
             Part::Pure(pure) => {
                 if self.pures.len() >= MOST_PURES {

@@ -3,7 +3,7 @@ ghost use Rattle.std.specs.Prelude.{◌≡◌, OnOk};
 ghost use Rattle.notation.specs.Steps.{Passes};
 
 use crate::drafts::Mention;
-use crate::problems::{Expected, Found, Problem};
+use crate::problems::{Expected, Found, Missing, Problem};
 use crate::quotes::Quote;
 use crate::scans::Scan;
 use crate::spans::Span;
@@ -16,7 +16,12 @@ impl<'a> Scan<'a> {
     }
 
     // Something else was expected where the token stands, after what stands from `from` on.
-    pub fn missing(&self, expected: Expected, from: usize, token: Token) -> Stop<'a> {
+    pub fn missing<E, P: From<Missing<'a, E>>>(
+        &self,
+        expected: E,
+        from: usize,
+        token: Token,
+    ) -> Stop<P> {
         let start = token.span.start;
         let word = self.quote(token.span);
         let (at, found) = match token.kind {
@@ -30,11 +35,16 @@ impl<'a> Scan<'a> {
             start: from,
             end: self.last,
         });
-        Stop::at(at, Problem::Missing(expected, before, found))
+        let missing = Missing {
+            expected,
+            before,
+            found,
+        };
+        Stop::at(at, P::from(missing))
     }
 
     // A word of the notation where a name was expected.
-    pub fn reserved(&self, from: usize, token: Token) -> Stop<'a> {
+    pub fn reserved(&self, from: usize, token: Token) -> Stop<Problem<'a>> {
         let before = self.quote(Span {
             start: from,
             end: self.last,
@@ -46,7 +56,7 @@ impl<'a> Scan<'a> {
     }
 
     // A word that is none of the notation where a part was expected.
-    pub fn unknown(&self, token: Token) -> Stop<'a> {
+    pub fn unknown(&self, token: Token) -> Stop<Problem<'a>> {
         Stop::at(
             token.span.start,
             Problem::UnknownWord(self.quote(token.span)),
@@ -54,7 +64,7 @@ impl<'a> Scan<'a> {
     }
 
     // The next name, which follows on what stands from `from` on.
-    pub fn mention(&mut self, from: usize) -> Result<Mention, Stop<'a>>
+    pub fn mention(&mut self, from: usize) -> Result<Mention, Stop<Problem<'a>>>
         ensures { OnOk result (Passes self.old self.new) }
     {
         let before = *self;

@@ -6,6 +6,7 @@
 #![tactic(auto)]
 
 pub mod drafts;
+pub mod errors;
 pub mod faults;
 pub mod lines;
 pub mod normals;
@@ -18,12 +19,15 @@ pub mod reports;
 pub mod scans;
 pub mod spans;
 pub mod stops;
+pub mod text_readers;
 pub mod tokens;
 pub mod words;
 
+pub use errors::Error;
 pub use normals::normal_form;
 pub use numbering::Asked;
-pub use problems::{Error, Problem};
+pub use problems::Problem;
 pub use readers::{MOST_BYTES, Reader};
 pub use reports::report;
 pub use spans::Span;
+pub use text_readers::TextReader;

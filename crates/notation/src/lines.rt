@@ -3,7 +3,7 @@ ghost use Rattle.std.specs.Prelude.{◌≡◌, OnOk};
 ghost use Rattle.notation.specs.Steps.{Goes, Passes};
 
 use crate::drafts::{Draft, DraftAtom, DraftPure, Mention, Pair, Part, Side};
-use crate::problems::Expected;
+use crate::problems::{Expected, Problem};
 use crate::scans::Scan;
 use crate::stops::Stop;
 use crate::tokens::Kind;
@@ -11,7 +11,7 @@ use std::alloc::Global;
 
 impl<'a> Scan<'a> {
     // Takes the sign, which follows on what stands from `from` on.
-    fn sign(&mut self, kind: Kind, expected: Expected, from: usize) -> Result<(), Stop<'a>>
+    fn sign(&mut self, kind: Kind, expected: Expected, from: usize) -> Result<(), Stop<Problem<'a>>>
         ensures { OnOk result (Goes self.old self.new) }
     {
         let before = *self;
@@ -24,7 +24,7 @@ impl<'a> Scan<'a> {
     }
 
     // What stands after an `ls` that begins at `from`.
-    fn row_ends(&mut self, from: usize) -> Result<Part, Stop<'a>>
+    fn row_ends(&mut self, from: usize) -> Result<Part, Stop<Problem<'a>>>
         ensures { OnOk result (Goes self.old self.new) }
     {
         self.sign(Kind::Open, Expected::Open, from)?;
@@ -36,7 +36,7 @@ impl<'a> Scan<'a> {
     }
 
     // What stands after a name that begins at `from`.
-    fn relation(&mut self, left: Mention, from: usize) -> Result<Part, Stop<'a>>
+    fn relation(&mut self, left: Mention, from: usize) -> Result<Part, Stop<Problem<'a>>>
         ensures { OnOk result (Goes self.old self.new) }
     {
         let before = *self;
@@ -55,7 +55,7 @@ impl<'a> Scan<'a> {
     }
 
     // A term, which is no part at all if it is `emp`.
-    fn term(&mut self) -> Result<Option<Part>, Stop<'a>>
+    fn term(&mut self) -> Result<Option<Part>, Stop<Problem<'a>>>
         ensures { OnOk result (Passes self.old self.new) }
     {
         let before = *self;
@@ -71,7 +71,7 @@ impl<'a> Scan<'a> {
         }
     }
 
-    fn terms(&mut self, heap: Global, side: Side) -> Result<Draft, Stop<'a>>
+    fn terms(&mut self, heap: Global, side: Side) -> Result<Draft, Stop<Problem<'a>>>
         ensures { OnOk result (Goes self.old self.new) }
     {
         let mut draft = Draft::new(heap);
@@ -97,7 +97,7 @@ impl<'a> Scan<'a> {
     }
 
     // The two claims of a question on one line.
-    pub fn line_form(&mut self, heap: Global) -> Result<(Draft, Draft), Stop<'a>>
+    pub fn line_form(&mut self, heap: Global) -> Result<(Draft, Draft), Stop<Problem<'a>>>
         ensures { OnOk result (Goes self.old self.new) }
     {
         let first = self.terms(heap, Side::First)?;

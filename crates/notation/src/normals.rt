@@ -7,28 +7,19 @@ use std::str::from_utf8;
 
 const INDENT: &str = "     ";
 
-impl Asked {
+impl<'a> Asked<'a> {
     // How the name is spelled in the text that was read.
-    pub fn spelled<'a>(&self, text: &'a [u8], name: Name) -> &'a str {
+    pub fn spelled(&self, name: Name) -> &'a str {
         if name.0 == 0 {
             return "nowhere";
         }
         match self.names.as_slice().get(usize::from(name.0)) {
-            Some(span) => from_utf8(span.of(text)).unwrap_or("?"),
+            Some(span) => from_utf8(span.of(self.text)).unwrap_or("?"),
             None => "?",
         }
     }
-}
 
-// A question's text, for the spelling of its names.
-#[derive(Clone, Copy)]
-struct Printer<'a> {
-    text: &'a [u8],
-    asked: &'a Asked,
-}
-
-impl Printer<'_> {
-    fn part(
+    fn print_part(
         &self,
         out: &mut String,
         lead: &str,
@@ -38,42 +29,42 @@ impl Printer<'_> {
     ) -> Result<(), AllocError> {
         out.push_str(lead)?;
         out.push_str(word)?;
-        out.push_str(self.asked.spelled(self.text, x))?;
+        out.push_str(self.spelled(x))?;
         out.push(' ')?;
-        out.push_str(self.asked.spelled(self.text, y))?;
+        out.push_str(self.spelled(y))?;
         out.push('\n')
     }
 
-    fn pures(&self, out: &mut String, lead: &str, pures: &[Pure]) -> Result<(), AllocError> {
+    fn print_pures(&self, out: &mut String, lead: &str, pures: &[Pure]) -> Result<(), AllocError> {
         for (i, pure) in pures.iter().enumerate() {
             let lead = if i == 0 { lead } else { INDENT };
             match *pure {
-                Pure::Same(x, y) => self.part(out, lead, "same ", x, y)?,
-                Pure::Other(x, y) => self.part(out, lead, "other ", x, y)?,
+                Pure::Same(x, y) => self.print_part(out, lead, "same ", x, y)?,
+                Pure::Other(x, y) => self.print_part(out, lead, "other ", x, y)?,
             }
         }
         Ok(())
     }
 
-    fn atoms(&self, out: &mut String, lead: &str, atoms: &[Atom]) -> Result<(), AllocError> {
+    fn print_atoms(&self, out: &mut String, lead: &str, atoms: &[Atom]) -> Result<(), AllocError> {
         for (i, atom) in atoms.iter().enumerate() {
             let lead = if i == 0 { lead } else { INDENT };
             match *atom {
-                Atom::Cell(x, y) => self.part(out, lead, "cell ", x, y)?,
-                Atom::Row(x, y) => self.part(out, lead, "row ", x, y)?,
+                Atom::Cell(x, y) => self.print_part(out, lead, "cell ", x, y)?,
+                Atom::Row(x, y) => self.print_part(out, lead, "row ", x, y)?,
             }
         }
         Ok(())
     }
 
-    fn claim(&self, out: &mut String, lead: &str, claim: &Claim) -> Result<(), AllocError> {
+    fn print_claim(&self, out: &mut String, lead: &str, claim: &Claim) -> Result<(), AllocError> {
         let none = claim.pures.is_empty();
         if none && claim.atoms.is_empty() {
             out.push_str(lead)?;
             return out.push_str("nothing\n");
         }
-        self.pures(out, lead, claim.pures.as_slice())?;
-        self.atoms(
+        self.print_pures(out, lead, claim.pures.as_slice())?;
+        self.print_atoms(
             out,
             if none { lead } else { INDENT },
             claim.atoms.as_slice(),
@@ -81,14 +72,9 @@ impl Printer<'_> {
     }
 }
 
-pub fn normal_form<'a>(
-    heap: Global,
-    text: &'a [u8],
-    asked: &'a Asked,
-) -> Result<String, AllocError> {
-    let printer = Printer { text, asked };
+pub fn normal_form(heap: Global, asked: &Asked) -> Result<String, AllocError> {
     let mut out = String::new(heap);
-    printer.claim(&mut out, "if   ", &asked.question.first)?;
-    printer.claim(&mut out, "then ", &asked.question.second)?;
+    asked.print_claim(&mut out, "if   ", &asked.question.first)?;
+    asked.print_claim(&mut out, "then ", &asked.question.second)?;
     Ok(out)
 }

@@ -3,9 +3,10 @@
 // numbers the names in the same way as the text that was read.
 ghost use Rattle.std.specs.Prelude.{◌≡◌, ◌<◌, ◌≤◌, [], ◌∷◌, map, length, IfSome, IfOk, vec_len, slice_index_or};
 ghost use Rattle.std.specs.List.{flat_map};
-ghost use Rattle.claims.specs.Meaning.{pure_of, atom_of, claim_of, question_of};
+ghost use Rattle.claims.specs.Meaning.{pure_of, atom_of, claim_of};
 ghost use Rattle.notation.specs.Spelling.{Distinct, Found, spellings, mention_spelling};
-ghost use Rattle.notation.specs.Order.{InOrder, Numbered, Accepted, pure_names, atom_names};
+ghost use Rattle.notation.specs.Order.{InOrder, Numbered, pure_names, atom_names};
+ghost use Rattle.notation.specs.Reading.{Asks};
 
 use crate::drafts::{Draft, DraftAtom, DraftPure, Mention, Pair};
 use crate::problems::Problem;
@@ -20,8 +21,10 @@ pub const MOST_NAMES: usize = 64;
 
 // A question that was asked in a text.
 #[derive(Drop)]
-pub struct Asked {
+pub struct Asked<'a> {
     pub question: Question,
+    // the whole text, for the spelling of the names
+    pub text: &'a [u8],
     // where each name stands first in the question; the span of nowhere is empty
     pub names: Vec<Span>,
     // the line where the question begins, from 1
@@ -40,7 +43,7 @@ pub struct Table<'a> {
 }
 
 impl<'a> Table<'a> {
-    fn new(heap: Global, text: &'a [u8]) -> Result<Table<'a>, Stop<'a>>
+    fn new(heap: Global, text: &'a [u8]) -> Result<Table<'a>, Stop<Problem<'a>>>
         ensures same { IfOk result (λ t. t.text.now ≡ text.now) }
         ensures one { IfOk result (λ t. vec_len t.names ≡ 1) }
     {
@@ -63,7 +66,7 @@ impl<'a> Table<'a> {
     }
 
     // The number of a name: one that came before, or the next.
-    fn number(&mut self, mention: Mention) -> Result<Name, Stop<'a>>
+    fn number(&mut self, mention: Mention) -> Result<Name, Stop<Problem<'a>>>
         ensures same { self.new.text.now ≡ self.old.text.now }
         ensures spelled { IfOk result (λ x. slice_index_or (spellings self.old.text.now self.new.names.items) x.0 [] ≡ mention_spelling self.old.text.now mention) }
         ensures order { IfOk result (λ x. InOrder (vec_len self.old.names) (x.0 ∷ []) (vec_len self.new.names)) }
@@ -83,7 +86,7 @@ impl<'a> Table<'a> {
         Ok(Name(count as u8))
     }
 
-    fn pair(&mut self, pair: Pair) -> Result<(Name, Name), Stop<'a>>
+    fn pair(&mut self, pair: Pair) -> Result<(Name, Name), Stop<Problem<'a>>>
         ensures same { self.new.text.now ≡ self.old.text.now }
         ensures order { IfOk result (λ p. InOrder (vec_len self.old.names) (p.0.0 ∷ p.1.0 ∷ []) (vec_len self.new.names)) }
     {
@@ -92,7 +95,7 @@ impl<'a> Table<'a> {
         Ok((x, y))
     }
 
-    fn pure(&mut self, draft: DraftPure) -> Result<Pure, Stop<'a>>
+    fn pure(&mut self, draft: DraftPure) -> Result<Pure, Stop<Problem<'a>>>
         ensures same { self.new.text.now ≡ self.old.text.now }
         ensures order { IfOk result (λ p. InOrder (vec_len self.old.names) (pure_names (pure_of p)) (vec_len self.new.names)) }
     {
@@ -108,7 +111,7 @@ impl<'a> Table<'a> {
         }
     }
 
-    fn atom(&mut self, draft: DraftAtom) -> Result<Atom, Stop<'a>>
+    fn atom(&mut self, draft: DraftAtom) -> Result<Atom, Stop<Problem<'a>>>
         ensures same { self.new.text.now ≡ self.old.text.now }
         ensures order { IfOk result (λ a. InOrder (vec_len self.old.names) (atom_names (atom_of a)) (vec_len self.new.names)) }
     {
@@ -124,7 +127,7 @@ impl<'a> Table<'a> {
         }
     }
 
-    fn pures(&mut self, heap: Global, drafts: &[DraftPure]) -> Result<Vec<Pure>, Stop<'a>>
+    fn pures(&mut self, heap: Global, drafts: &[DraftPure]) -> Result<Vec<Pure>, Stop<Problem<'a>>>
         ensures same { self.new.text.now ≡ self.old.text.now }
         ensures order { IfOk result (λ v. InOrder (vec_len self.old.names) (flat_map pure_names (map pure_of v.items)) (vec_len self.new.names) × (vec_len v ≡ length drafts.now)) }
     {
@@ -135,7 +138,7 @@ impl<'a> Table<'a> {
         Ok(pures)
     }
 
-    fn atoms(&mut self, heap: Global, drafts: &[DraftAtom]) -> Result<Vec<Atom>, Stop<'a>>
+    fn atoms(&mut self, heap: Global, drafts: &[DraftAtom]) -> Result<Vec<Atom>, Stop<Problem<'a>>>
         ensures same { self.new.text.now ≡ self.old.text.now }
         ensures order { IfOk result (λ v. InOrder (vec_len self.old.names) (flat_map atom_names (map atom_of v.items)) (vec_len self.new.names) × (vec_len v ≡ length drafts.now)) }
     {
@@ -146,7 +149,7 @@ impl<'a> Table<'a> {
         Ok(atoms)
     }
 
-    fn claim(&mut self, heap: Global, draft: &Draft) -> Result<Claim, Stop<'a>>
+    fn claim(&mut self, heap: Global, draft: &Draft) -> Result<Claim, Stop<Problem<'a>>>
         ensures same { self.new.text.now ≡ self.old.text.now }
         ensures order { IfOk result (λ c. Numbered (vec_len self.old.names) (claim_of c) (vec_len self.new.names)) }
     {
@@ -163,8 +166,8 @@ pub fn numbered<'a>(
     line: usize,
     first: &Draft,
     second: &Draft,
-) -> Result<Asked, Stop<'a>>
-    ensures { IfOk result (λ a. Accepted (question_of a.question) (spellings text.now a.names.items)) }
+) -> Result<Asked<'a>, Stop<Problem<'a>>>
+    ensures { IfOk result (Asks text.now) }
 {
     let mut table = Table::new(heap, text)?;
     let first = table.claim(heap, first)?;
@@ -177,6 +180,7 @@ pub fn numbered<'a>(
     };
     Ok(Asked {
         question,
+        text,
         names,
         line,
     })

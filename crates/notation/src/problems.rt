@@ -32,6 +32,14 @@ pub enum Found<'a> {
     End,
 }
 
+// What should follow on what, and what was found.
+#[derive(Clone, Copy)]
+pub struct Missing<'a, E> {
+    pub expected: E,
+    pub before: Quote<'a>,
+    pub found: Found<'a>,
+}
+
 #[derive(Clone, Copy)]
 pub enum Problem<'a> {
     TooLong,
@@ -39,23 +47,12 @@ pub enum Problem<'a> {
     UnknownWord(Quote<'a>),
     // a word of the notation in a name's place, and what stands before it
     Reserved(Quote<'a>, Quote<'a>),
-    // what should follow on what, and what was found
-    Missing(Expected, Quote<'a>, Found<'a>),
+    Missing(Missing<'a, Expected>),
     // `nothing` beside other parts
     NotAlone,
     ManyNames(Quote<'a>),
     ManyPures,
     ManyAtoms,
-}
-
-// A problem and where it is. Lines and columns count from 1, and columns count characters.
-#[derive(Clone, Copy)]
-pub struct Error<'a> {
-    pub line: usize,
-    pub column: usize,
-    // the byte of the text
-    pub at: usize,
-    pub problem: Problem<'a>,
 }
 
 impl fmt::Display for Expected {
@@ -91,6 +88,27 @@ impl fmt::Display for Found<'_> {
     }
 }
 
+impl<E: fmt::Display> fmt::Display for Missing<'_, E> {
+    fn fmt<W: fmt::Write>(&self, f: &mut fmt::Formatter<W>) -> fmt::Result {
+        let Missing {
+            expected,
+            before,
+            found,
+        } = self;
+        write!(f, "expected {expected}")?;
+        if !before.is_empty() {
+            write!(f, " after {before}")?;
+        }
+        write!(f, ", found {found}")
+    }
+}
+
+impl<'a> From<Missing<'a, Expected>> for Problem<'a> {
+    fn from(missing: Missing<'a, Expected>) -> Problem<'a> {
+        Problem::Missing(missing)
+    }
+}
+
 impl fmt::Display for Problem<'_> {
     fn fmt<W: fmt::Write>(&self, f: &mut fmt::Formatter<W>) -> fmt::Result {
         match self {
@@ -110,14 +128,7 @@ impl fmt::Display for Problem<'_> {
                 f,
                 "expected a name after {before}, found {word}, which is a word of the notation and can't be a name"
             ),
-            Problem::Missing(expected, before, found) if before.is_empty() => write!(
-                f,
-                "expected {expected}, found {found}"
-            ),
-            Problem::Missing(expected, before, found) => write!(
-                f,
-                "expected {expected} after {before}, found {found}"
-            ),
+            Problem::Missing(missing) => write!(f, "{missing}"),
             Problem::NotAlone => f.write_str(
                 "`nothing` stands alone: expected no other part beside it",
             ),

@@ -1,13 +1,11 @@
 // The questions of a text, one after another. An error in one of them does not lose the others.
 ghost use Rattle.std.specs.Prelude.{◌≡◌, IfOk};
-ghost use Rattle.claims.specs.Meaning.{question_of};
-ghost use Rattle.notation.specs.Order.{Accepted};
-ghost use Rattle.notation.specs.Spelling.{spellings};
-ghost use Rattle.notation.specs.Reading.{Gives, Advances};
+ghost use Rattle.notation.specs.Reading.{Asks, Gives, Advances};
 
+use crate::errors::Error;
 use crate::numbering::{Asked, numbered};
 use crate::places::Place;
-use crate::problems::{Error, Expected, Problem};
+use crate::problems::{Expected, Problem};
 use crate::scans::Scan;
 use crate::spans::Span;
 use crate::stops::{Fault, Stop};
@@ -29,8 +27,8 @@ pub struct Reader<'a> {
 
 impl<'a> Scan<'a> {
     // The question that begins here.
-    fn question(&mut self, heap: Global, line: usize) -> Result<Asked, Stop<'a>>
-        ensures { IfOk result (λ a. Accepted (question_of a.question) (spellings self.old.text.now a.names.items)) }
+    fn question(&mut self, heap: Global, line: usize) -> Result<Asked<'a>, Stop<Problem<'a>>>
+        ensures { IfOk result (Asks self.old.text.now) }
     {
         let text = self.text;
         let token = self.peek();
@@ -86,7 +84,7 @@ impl<'a> Scan<'a> {
 
 impl<'a> Reader<'a> {
     // Refuses what is too long to be read, or no text.
-    pub fn new(text: &'a [u8]) -> Result<Reader<'a>, Error<'a>>
+    pub fn new(text: &'a [u8]) -> Result<Reader<'a>, Error<Problem<'a>>>
         ensures { IfOk result (λ reader. reader.text.now ≡ text.now) }
     {
         if text.len() > MOST_BYTES {
@@ -117,7 +115,10 @@ impl<'a> Reader<'a> {
     }
 
     // The next question or the error in it, or `None` at the end of the text.
-    pub fn next(&mut self, heap: Global) -> Result<Option<Result<Asked, Error<'a>>>, AllocError>
+    pub fn next(
+        &mut self,
+        heap: Global,
+    ) -> Result<Option<Result<Asked<'a>, Error<Problem<'a>>>>, AllocError>
         ensures same { self.new.text.now ≡ self.old.text.now }
         ensures gives { Gives self.old.text.now result }
         ensures advances { Advances self.old result self.new }
@@ -154,7 +155,7 @@ impl<'a> Reader<'a> {
     }
 
     // A fault of the question that began last, with its line and column.
-    fn error(&self, fault: Fault<'a>) -> Error<'a> {
+    fn error<P>(&self, fault: Fault<P>) -> Error<P> {
         let Fault { at, problem } = fault;
         let Place { at, line, column } = self.place.moved(self.text, at);
         Error {

@@ -1,7 +1,8 @@
 // An error as lines for people: where and what it is, the line of the text, and a caret under the column.
-use crate::problems::Error;
+use crate::errors::Error;
 use crate::spans::Span;
 use std::alloc::{AllocError, Global};
+use std::fmt;
 
 // A line of more columns is cut.
 const WIDEST: usize = 80;
@@ -131,15 +132,14 @@ fn show_caret(out: &mut String, window: &Window) -> Result<(), AllocError> {
 }
 
 // FILE:LINE:COLUMN: MESSAGE, then the line, and a caret below the column.
-pub fn report(heap: Global, file: &str, text: &[u8], error: &Error) -> Result<String, AllocError> {
-    let Error {
-        line,
-        column,
-        at,
-        problem,
-    } = *error;
-    let mut out = format!(in heap; "{file}:{line}:{column}: {problem}\n")?;
-    let window = window_around(text, at, column);
+pub fn report<P: fmt::Display>(
+    heap: Global,
+    file: &str,
+    text: &[u8],
+    error: &Error<P>,
+) -> Result<String, AllocError> {
+    let mut out = format!(in heap; "{file}:{error}\n")?;
+    let window = window_around(text, error.at, error.column);
     show_line(heap, &mut out, text, &window)?;
     show_caret(&mut out, &window)?;
     Ok(out)

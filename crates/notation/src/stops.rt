@@ -1,34 +1,41 @@
-// Why the reading of a question stops: there is no memory, or a fault in the text.
-use crate::problems::Problem;
+// Why the reading of a text stops: there is no memory left, or a fault in the text. `P` is what can be wrong with it.
 use std::alloc::{AllocError, AllocFailed};
 
 // A problem at a byte of the text. Its line and column are counted later, once.
 #[derive(Clone, Copy)]
-pub struct Fault<'a> {
+pub struct Fault<P> {
     pub at: usize,
-    pub problem: Problem<'a>,
+    pub problem: P,
 }
 
 #[derive(Drop)]
-pub enum Stop<'a> {
+pub enum Stop<P> {
     Memory(AllocError),
-    Fault(Fault<'a>),
+    Fault(Fault<P>),
 }
 
-impl<'a> Stop<'a> {
-    pub fn at(at: usize, problem: Problem<'a>) -> Stop<'a> {
+impl<P> Stop<P> {
+    pub fn at(at: usize, problem: P) -> Stop<P> {
         Stop::Fault(Fault { at, problem })
+    }
+
+    // The same stop, told as a problem of another kind.
+    pub fn told_as<Q: From<P>>(self) -> Stop<Q> {
+        match self {
+            Stop::Memory(e) => Stop::Memory(e),
+            Stop::Fault(Fault { at, problem }) => Stop::at(at, Q::from(problem)),
+        }
     }
 }
 
-impl<'a> From<AllocError> for Stop<'a> {
-    fn from(e: AllocError) -> Stop<'a> {
+impl<P> From<AllocError> for Stop<P> {
+    fn from(e: AllocError) -> Stop<P> {
         Stop::Memory(e)
     }
 }
 
-impl<'a, T: Drop> From<AllocFailed<T>> for Stop<'a> {
-    fn from(e: AllocFailed<T>) -> Stop<'a> {
+impl<P, T: Drop> From<AllocFailed<T>> for Stop<P> {
+    fn from(e: AllocFailed<T>) -> Stop<P> {
         Stop::Memory(e.into())
     }
 }

@@ -18,7 +18,7 @@ pub enum Next {
 
 impl<'a> Scan<'a> {
     // A part, of which `expected` says what it may be.
-    fn part(&mut self, expected: Expected) -> Result<Part, Stop<'a>>
+    fn part(&mut self, expected: Expected) -> Result<Part, Stop<Problem<'a>>>
         ensures { OnOk result (Passes self.old self.new) }
     {
         let before = *self;
@@ -42,7 +42,7 @@ impl<'a> Scan<'a> {
     }
 
     // Does the line that begins here go on with the claim? A question on one line may follow on the second claim.
-    fn line_goes_on(&self, side: Side) -> Result<Next, Stop<'a>> {
+    fn line_goes_on(&self, side: Side) -> Result<Next, Stop<Problem<'a>>> {
         let token = self.peek();
         match token.kind {
             Kind::Same | Kind::Other | Kind::Cell | Kind::Row => Ok(Next::Part),
@@ -55,7 +55,7 @@ impl<'a> Scan<'a> {
     }
 
     // Goes on after a part that begins at `from`.
-    fn after_part(&mut self, side: Side, from: usize) -> Result<Next, Stop<'a>>
+    fn after_part(&mut self, side: Side, from: usize) -> Result<Next, Stop<Problem<'a>>>
         ensures { OnOk result (Goes self.old self.new) }
     {
         let token = self.peek();
@@ -75,7 +75,7 @@ impl<'a> Scan<'a> {
     }
 
     // `nothing`, alone.
-    fn no_part(&mut self, side: Side) -> Result<(), Stop<'a>>
+    fn no_part(&mut self, side: Side) -> Result<(), Stop<Problem<'a>>>
         ensures { OnOk result (Goes self.old self.new) }
     {
         let from = self.take().span.start;
@@ -85,7 +85,7 @@ impl<'a> Scan<'a> {
         }
     }
 
-    fn claim(&mut self, heap: Global, side: Side) -> Result<Draft, Stop<'a>>
+    fn claim(&mut self, heap: Global, side: Side) -> Result<Draft, Stop<Problem<'a>>>
         ensures { OnOk result (Goes self.old self.new) }
     {
         let mut draft = Draft::new(heap);
@@ -106,7 +106,7 @@ impl<'a> Scan<'a> {
     }
 
     // The two claims of a question that begins with `if`.
-    pub fn word_form(&mut self, heap: Global) -> Result<(Draft, Draft), Stop<'a>>
+    pub fn word_form(&mut self, heap: Global) -> Result<(Draft, Draft), Stop<Problem<'a>>>
         ensures { OnOk result (Goes self.old self.new) }
     {
         self.take();

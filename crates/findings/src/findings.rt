@@ -1,0 +1,88 @@
+// What was found out about a claim, for people: the names that must be the same, those that can't be, and that the claim
+// can't be at all. Only what the claim doesn't say itself is told.
+ghost use Rattle.std.specs.Prelude.{◌<◌, ◌≤◌};
+ghost use Rattle.claims.specs.Meaning.{question_of};
+ghost use Rattle.claims.specs.Words.{Limits};
+
+use claims::Name;
+use linked::known::Known;
+use linked::settle::{Outcome, settle_first};
+use notation::Asked;
+use std::alloc::{AllocError, Global};
+
+// What is known of the names of a question's first claim.
+#[derive(Drop)]
+struct Findings<'a> {
+    asked: &'a Asked<'a>,
+    known: Known,
+    ghost few_names: { asked.now.question.names ≤ 64 },
+}
+
+impl Findings<'_> {
+    // Does the claim say itself that the two are the same, or that they are other?
+    fn is_given(&self, x: Name, y: Name) -> bool {
+        self.asked.question.first.pures.iter().any(|pure| {
+            let names = pure.names();
+            names == (x, y) || names == (y, x)
+        })
+    }
+
+    // One finding on a line of its own, if the claim doesn't say it.
+    fn tell(&self, out: &mut String, word: &str, x: u8, y: u8) -> Result<(), AllocError> {
+        let (x, y) = (Name(x), Name(y));
+        if self.is_given(x, y) {
+            return Ok(());
+        }
+        let (left, right) = (self.asked.spelled(x), self.asked.spelled(y));
+        write!(out, "# must be: {word} {left} {right}\n")
+    }
+
+    // The names that are the same as another.
+    fn tell_same(&self, out: &mut String) -> Result<(), AllocError> {
+        for x in 1..self.asked.question.names {
+            let stands = self.known.find(x);
+            if stands != x {
+                self.tell(out, "same", stands, x)?;
+            }
+        }
+        Ok(())
+    }
+
+    // The names behind x that are other than it.
+    fn tell_other_than(&self, out: &mut String, x: u8) -> Result<(), AllocError>
+        requires { x < 64 }
+    {
+        for y in x + 1..self.asked.question.names {
+            if self.known.find(y) == y && self.known.other(x, y) {
+                self.tell(out, "other", x, y)?;
+            }
+        }
+        Ok(())
+    }
+
+    // The names that are other, each told by the one that stands for it.
+    fn tell_other(&self, out: &mut String) -> Result<(), AllocError> {
+        for x in 0..self.asked.question.names {
+            if self.known.find(x) == x {
+                self.tell_other_than(out, x)?;
+            }
+        }
+        Ok(())
+    }
+}
+
+// What was found out about a question's first claim, as comment lines of the notation.
+pub fn found(heap: Global, asked: &Asked) -> Result<String, AllocError>
+    requires { Limits (question_of asked.now.question) }
+{
+    let mut out = String::new(heap);
+    match settle_first(&asked.question) {
+        Outcome::Never => out.push_str("# the first claim can't be\n")?,
+        Outcome::Forks(known) | Outcome::Holds(known) => {
+            let findings = Findings { asked, known };
+            findings.tell_same(&mut out)?;
+            findings.tell_other(&mut out)?;
+        }
+    }
+    Ok(out)
+}

@@ -1,5 +1,0 @@
-use Rattle.memory_notation.specs.Reading.{left}
-use Rattle.holds.proofs.show_text.Given as goal
-
-abbrev pub decreases-loop-next : goal.decreases-loop-next
-decreases-loop-next l = left l.cases

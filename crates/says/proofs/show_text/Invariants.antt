@@ -1,5 +1,0 @@
-use Rattle.notation.specs.Reading.{left}
-use Rattle.says.proofs.show_text.Given as goal
-
-abbrev pub decreases-loop-next : goal.decreases-loop-next
-decreases-loop-next l = left l.reader
