@@ -23,7 +23,8 @@ pub struct Asked<'a> {
     pub question: Question,
     // the whole text, for the spelling of the names
     pub text: &'a [u8],
-    // where each name stands first in the question; the span of nowhere is empty
+    // where each name stands first in the question, for its spelling and for errors about it; the span of nowhere
+    // is empty
     pub names: Vec<Span>,
     // the line where the question begins, from 1
     pub line: usize,
@@ -84,12 +85,7 @@ pub fn find(text: &[u8], names: &[Span], spelled: &[u8]) -> Option<usize>
     ensures within { IfSome result (λ i. i < length names.now) }
     ensures found { Found (spellings text.now names.now) spelled.now result }
 {
-    for (i, name) in names.iter().enumerate() {
-        if name.of(text) == spelled {
-            return Some(i);
-        }
-    }
-    None
+    names.iter().position(|name| name.spells(text, spelled))
 }
 
 // The names so far, by where they stand first. The first is nowhere.

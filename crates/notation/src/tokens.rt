@@ -154,6 +154,7 @@ fn token_at(text: &[u8], from: usize) -> Token
     }
 }
 
+// No iterator, since an error at the end of a text or a line tells of the token there.
 impl<'a> Scan<'a> {
     // The place at the byte `at`, or at the end of the text if it is not so long.
     pub fn new(text: &'a [u8], at: usize) -> Scan<'a>
