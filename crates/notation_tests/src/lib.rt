@@ -15,10 +15,7 @@ mod tests {
         let Ok(mut reader) = Reader::new(text) else {
             return Ok(None);
         };
-        match reader.next(heap)? {
-            Some(Ok(asked)) => Ok(Some(asked)),
-            _ => Ok(None),
-        }
+        Ok(reader.next(heap)?.and_then(|next| next.ok()))
     }
 
     // Is a claim read that has so many parts with names `n0` up to `nN`, N being `last`?
