@@ -92,6 +92,7 @@ impl Entries {
         ensures { IfOk result (λ v. Placed self.now.places.items (length asked.now.names.items) v.items) }
     {
         let mut words = Vec::new(heap);
+        // by number, since a zip would end where the places do, and not refuse the name
         for (i, name) in asked.names.iter().enumerate() {
             let Some(Some(place)) = self.places.get(i) else {
                 let quote = Quote::new(name.of(asked.text));
