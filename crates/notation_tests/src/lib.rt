@@ -15,7 +15,10 @@ mod tests {
         let Ok(mut reader) = Reader::new(text) else {
             return Ok(None);
         };
-        Ok(reader.next(heap)?.and_then(|next| next.ok()))
+        match reader.next(heap)? {
+            Some(Ok(asked)) => Ok(Some(asked)),
+            _ => Ok(None),
+        }
     }
 
     // Is a claim read that has so many parts with names `n0` up to `nN`, N being `last`?
