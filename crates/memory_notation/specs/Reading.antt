@@ -20,7 +20,7 @@ Gives (Err e) = Unit {0}
 
 -- how much of the text is left
 abbrev pub left : Cases → ℕ
-left r = length r.text.now - r.at
+left r = length r.cursor.text.now - r.cursor.at
 
 -- unless it is the end, less of the text is left
 abbrev pub Advances : {E : Type 0} → Cases → Result (Option (Result Case E)) AllocError → Cases → Type 0

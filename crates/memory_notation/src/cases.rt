@@ -10,16 +10,15 @@ ghost use Rattle.memory_notation.specs.Reading.{Advances, Gives, WellRead};
 use crate::claim_texts::parts;
 use crate::items::{Sort, peek, take};
 use crate::memory_texts::read_entries;
-use crate::problems::{Error, Expected, Problem};
+use crate::problems::{Error, Expected};
 use crate::stops::Stop;
 use claims::Question;
+use notation::Asked;
+use notation::cursors::Cursor;
 use notation::drafts::Draft;
 use notation::numbering::numbered;
-use notation::places::Place;
 use notation::scans::Scan;
-use notation::stops::Fault;
 use notation::tokens::Kind;
-use notation::{Asked, Reader, Span};
 use std::alloc::{AllocError, Global};
 
 // A claim and a memory that stood in a text.
@@ -37,11 +36,7 @@ pub struct Case<'a> {
 
 #[derive(Clone, Copy)]
 pub struct Cases<'a> {
-    text: &'a [u8],
-    // where the reading goes on
-    at: usize,
-    // where the last case began
-    place: Place,
+    cursor: Cursor<'a>,
 }
 
 // How many names there are, and then the words of the claim: those of the question up to its second claim.
@@ -64,15 +59,15 @@ fn claim<'a>(scan: &mut Scan<'a>, heap: Global, line: usize) -> Result<Asked<'a>
 {
     let before = *scan;
     let item = take(scan);
-    let Sort::Claim = item.sort else {
+    if item.sort != Sort::Claim {
         return Err(before.missing(Expected::Claim, before.last, item.token));
-    };
+    }
     let draft = parts(scan, heap)?;
     let after = *scan;
     let item = take(scan);
-    let Sort::Memory = item.sort else {
+    if item.sort != Sort::Memory {
         return Err(after.missing(Expected::Memory, after.last, item.token));
-    };
+    }
     let none = Draft::new(heap);
     match numbered(heap, before.text, line, &draft, &none) {
         Ok(asked) => Ok(asked),
@@ -84,15 +79,14 @@ fn claim<'a>(scan: &mut Scan<'a>, heap: Global, line: usize) -> Result<Asked<'a>
 fn read_case<'a>(scan: &mut Scan<'a>, heap: Global, line: usize) -> Result<Case<'a>, Stop<'a>>
     ensures { IfOk result WellRead }
 {
-    let text = scan.text;
     let asked = claim(scan, heap, line)?;
-    let entries = read_entries(scan, heap, asked.names.as_slice())?;
+    let entries = read_entries(scan, heap, &asked)?;
     let item = peek(scan);
-    if let Sort::Memory = item.sort {
+    if item.sort == Sort::Memory {
         return Err(scan.missing(Expected::EntryOrClaim, scan.last, item.token));
     }
     let claim = claim_words(heap, &asked.question)?;
-    let names = entries.name_words(heap, text, asked.names.as_slice())?;
+    let names = entries.name_words(heap, &asked)?;
     let memory = entries.memory_words(heap)?;
     Ok(Case {
         asked,
@@ -117,55 +111,32 @@ fn recovered(text: &[u8], at: usize) -> usize {
 impl<'a> Cases<'a> {
     // Refuses what is too long to be read, or no text.
     pub fn new(text: &'a [u8]) -> Result<Cases<'a>, Error<'a>> {
-        if let Err(e) = Reader::new(text) {
-            return Err(e.told_as());
+        match Cursor::new(text) {
+            Ok(cursor) => Ok(Cases { cursor }),
+            Err(e) => Err(e.told_as()),
         }
-        // some editors begin a text with this mark, which is no part of it
-        let at = if let [0xef, 0xbb, 0xbf, ..] = text {
-            3
-        } else {
-            0
-        };
-        let place = Place::first(at);
-        Ok(Cases { text, at, place })
     }
 
     // The next case or the error in it, or `None` at the end of the text.
     pub fn next(&mut self, heap: Global) -> Result<Option<Result<Case<'a>, Error<'a>>>, AllocError>
-        ensures same { self.new.text.now ≡ self.old.text.now }
+        ensures same { self.new.cursor.text.now ≡ self.old.cursor.text.now }
         ensures gives { Gives result }
         ensures advances { Advances self.old result self.new }
     {
-        let mut scan = Scan::new(self.text, self.at);
-        scan.skip_lines();
-        let first = scan.peek();
-        if let Kind::End = first.kind {
+        let Some((mut scan, first)) = self.cursor.begin() else {
             return Ok(None);
-        }
-        let Span { start, end } = first.span;
-        self.place = self.place.moved(self.text, start);
-        match read_case(&mut scan, heap, self.place.line) {
+        };
+        let text = scan.text;
+        match read_case(&mut scan, heap, self.cursor.line()) {
             Ok(case) => {
-                self.at = end.max(scan.at);
+                self.cursor.go_on(first.span, scan.at);
                 Ok(Some(Ok(case)))
             }
             Err(Stop::Memory(e)) => Err(e),
             Err(Stop::Fault(fault)) => {
-                self.at = end.max(recovered(self.text, fault.at));
-                Ok(Some(Err(self.error(fault))))
+                self.cursor.go_on(first.span, recovered(text, fault.at));
+                Ok(Some(Err(self.cursor.error(fault))))
             }
-        }
-    }
-
-    // A fault of the case that began last, with its line and column.
-    fn error(&self, fault: Fault<Problem<'a>>) -> Error<'a> {
-        let Fault { at, problem } = fault;
-        let Place { at, line, column } = self.place.moved(self.text, at);
-        Error {
-            line,
-            column,
-            at,
-            problem,
         }
     }
 }

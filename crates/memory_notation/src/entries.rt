@@ -1,12 +1,14 @@
 // The entries of a memory, as far as they are read: what the names stand for, and the cells.
-ghost use Rattle.std.specs.Prelude.{◌<◌, length, IfSome, IfOk};
+ghost use Rattle.std.specs.Prelude.{length, IfOk};
 ghost use Rattle.memory_notation.specs.Placing.{Placed};
 
 use crate::problems::Problem;
 use crate::stops::Stop;
+use indexmap::IndexMap;
 use memory::checks::MOST_CELLS;
-use notation::Span;
+use notation::numbering::find;
 use notation::quotes::Quote;
+use notation::{Asked, Span};
 use std::alloc::{AllocError, Global};
 
 #[derive(Clone, Copy)]
@@ -26,45 +28,25 @@ pub enum Entry {
 pub struct Entries {
     // the place that each name of the claim stands for, once it is given
     places: Vec<Option<u32>>,
-    cells: Vec<Cell>,
-}
-
-// The number of the name that is spelled so.
-fn find(text: &[u8], names: &[Span], spelled: &[u8]) -> Option<usize>
-    ensures { IfSome result (λ i. i < length names.now) }
-{
-    for (i, name) in names.iter().enumerate() {
-        if name.of(text) == spelled {
-            return Some(i);
-        }
-    }
-    None
+    // where the cell at a place leads, in the order of the entries
+    cells: IndexMap<u32, u32>,
 }
 
 impl Entries {
     // No entries yet, for a claim with so many names. The first is nowhere.
     pub fn new(heap: Global, names: usize) -> Result<Entries, AllocError> {
-        let mut places = Vec::new(heap);
-        places.push(Some(0))?;
-        for _ in 1..names {
-            places.push(None)?;
-        }
+        let mut places = vec![in heap; Some(0)]?;
+        places.resize(names.max(1), None)?;
         Ok(Entries {
             places,
-            cells: Vec::new(heap),
+            cells: IndexMap::new(heap),
         })
     }
 
     // The name stands for the place. A name that the claim doesn't mention is passed over.
-    fn give<'a>(
-        &mut self,
-        text: &'a [u8],
-        names: &[Span],
-        name: Span,
-        place: u32,
-    ) -> Result<(), Stop<'a>> {
-        let spelled = name.of(text);
-        let Some(i) = find(text, names, spelled) else {
+    fn give<'a>(&mut self, asked: &Asked<'a>, name: Span, place: u32) -> Result<(), Stop<'a>> {
+        let spelled = name.of(asked.text);
+        let Some(i) = find(asked.text, asked.names.as_slice(), spelled) else {
             return Ok(());
         };
         let Some(given) = self.places.get_mut(i) else {
@@ -77,57 +59,43 @@ impl Entries {
         Ok(())
     }
 
-    fn has_cell(&self, at: u32) -> bool {
-        for cell in self.cells.iter() {
-            if cell.at == at {
-                return true;
-            }
-        }
-        false
-    }
-
     // There is such a cell, by an entry that begins at `from`.
     fn add<'a>(&mut self, cell: Cell, from: usize) -> Result<(), Stop<'a>> {
         if cell.at == 0 {
             return Err(Stop::at(from, Problem::CellNowhere));
         }
-        if self.has_cell(cell.at) {
+        if self.cells.contains_key(&cell.at) {
             return Err(Stop::at(from, Problem::CellTwice(cell.at)));
         }
         if self.cells.len() >= MOST_CELLS {
             return Err(Stop::at(from, Problem::ManyCells));
         }
-        self.cells.push(cell)?;
+        self.cells.insert(cell.at, cell.to)?;
         Ok(())
     }
 
     // Takes the entry that begins at `from` in the text.
     pub fn put<'a>(
         &mut self,
-        text: &'a [u8],
-        names: &[Span],
+        asked: &Asked<'a>,
         entry: Entry,
         from: usize,
     ) -> Result<(), Stop<'a>> {
         match entry {
-            Entry::Name(name, place) => self.give(text, names, name, place),
+            Entry::Name(name, place) => self.give(asked, name, place),
             Entry::Cell(cell) => self.add(cell, from),
         }
     }
 
     // A word for each name: the place that it stands for. Refuses where a name has none.
-    pub fn name_words<'a>(
-        &self,
-        heap: Global,
-        text: &'a [u8],
-        names: &[Span],
-    ) -> Result<Vec<u32>, Stop<'a>>
-        ensures { IfOk result (λ v. Placed self.now.places.items (length names.now) v.items) }
+    pub fn name_words<'a>(&self, heap: Global, asked: &Asked<'a>) -> Result<Vec<u32>, Stop<'a>>
+        ensures { IfOk result (λ v. Placed self.now.places.items (length asked.now.names.items) v.items) }
     {
         let mut words = Vec::new(heap);
-        for (i, name) in names.iter().enumerate() {
+        // by number, since a zip would end where the places do, and not refuse the name
+        for (i, name) in asked.names.iter().enumerate() {
             let Some(Some(place)) = self.places.get(i) else {
-                let quote = Quote::new(name.of(text));
+                let quote = Quote::new(name.of(asked.text));
                 return Err(Stop::at(name.start, Problem::NoPlace(quote)));
             };
             words.push(*place)?;
@@ -138,9 +106,9 @@ impl Entries {
     // Two words for each cell.
     pub fn memory_words(&self, heap: Global) -> Result<Vec<u32>, AllocError> {
         let mut words = Vec::new(heap);
-        for cell in self.cells.iter() {
-            words.push(cell.at)?;
-            words.push(cell.to)?;
+        for (at, to) in self.cells.iter() {
+            words.push(*at)?;
+            words.push(*to)?;
         }
         Ok(words)
     }

@@ -7,13 +7,20 @@ use notation::Span;
 use notation::scans::Scan;
 use notation::tokens::{Kind, Token};
 
-#[derive(Clone, Copy)]
+#[derive(Clone, Copy, PartialEq)]
 pub enum Sort {
     Claim,
     Memory,
     // `->`
     Arrow,
     Shared(Kind),
+}
+
+impl Sort {
+    // Does it end a claim or a memory?
+    pub fn is_end(self) -> bool {
+        matches!(self, Sort::Claim | Sort::Memory | Sort::Shared(Kind::End))
+    }
 }
 
 #[derive(Clone, Copy)]
@@ -32,13 +39,6 @@ fn word_sort(word: &[u8]) -> Sort
     }
 }
 
-fn is_byte(text: &[u8], span: Span, byte: u8) -> bool {
-    match span.of(text) {
-        [only] => *only == byte,
-        _ => false,
-    }
-}
-
 // Takes the next word or sign.
 pub fn take(scan: &mut Scan<'_>) -> Item
     ensures goes { Goes scan.old scan.new }
@@ -51,10 +51,10 @@ pub fn take(scan: &mut Scan<'_>) -> Item
             sort: word_sort(token.span.of(scan.text)),
             token,
         },
-        Kind::Strange if is_byte(scan.text, token.span, b'-') => {
+        Kind::Strange if token.span.spells(scan.text, b"-") => {
             let mut next = *scan;
             let tip = next.take();
-            if tip.span.start != end || !is_byte(scan.text, tip.span, b'>') {
+            if tip.span.start != end || !tip.span.spells(scan.text, b">") {
                 return Item {
                     sort: Sort::Shared(Kind::Strange),
                     token,

@@ -2,42 +2,33 @@
 ghost use Rattle.std.specs.Prelude.{◌≡◌, OnOk};
 ghost use Rattle.notation.specs.Steps.{Goes, Passes};
 
-use crate::claim_texts::{Next, after, nothing};
+use crate::claim_texts::{goes_on, nothing};
 use crate::entries::{Cell, Entries, Entry};
 use crate::items::{Sort, take};
 use crate::problems::{Expected, Problem};
 use crate::stops::Stop;
-use notation::Span;
-use notation::problems::Problem as SharedProblem;
+use notation::Asked;
 use notation::quotes::Quote;
 use notation::scans::Scan;
+use notation::stops::Stop as SharedStop;
 use notation::tokens::{Kind, Token};
 use std::alloc::Global;
 use std::str::from_utf8;
 
-fn all_digits(word: &[u8]) -> bool {
-    for byte in word {
-        if !byte.is_ascii_digit() {
-            return false;
-        }
-    }
-    true
-}
-
 // The place that the word is.
 fn place_of<'a>(text: &'a [u8], token: Token) -> Result<u32, Stop<'a>> {
-    if let Kind::Nowhere = token.kind {
+    if token.kind == Kind::Nowhere {
         return Ok(0);
     }
     let word = token.span.of(text);
     let at = token.span.start;
-    if !all_digits(word) {
+    if !word.iter().all(|byte| byte.is_ascii_digit()) {
         return Err(Stop::at(at, Problem::NoNumber(Quote::new(word))));
     }
-    match from_utf8(word).unwrap_or("").parse::<u32>() {
-        Ok(place) => Ok(place),
-        Err(_) => Err(Stop::at(at, Problem::LargeNumber(Quote::new(word)))),
-    }
+    from_utf8(word)
+        .unwrap_or("")
+        .parse::<u32>()
+        .map_err(|_| Stop::at(at, Problem::LargeNumber(Quote::new(word))))
 }
 
 // The next place, which follows on what stands from `from` on.
@@ -60,10 +51,7 @@ fn first_word<'a>(scan: &mut Scan<'a>, expected: Expected) -> Result<Token, Stop
     let item = take(scan);
     match item.sort {
         Sort::Shared(Kind::Name | Kind::Nowhere) => Ok(item.token),
-        Sort::Shared(Kind::Nothing) => Err(Stop::at(
-            item.token.span.start,
-            Problem::Shared(SharedProblem::NotAlone),
-        )),
+        Sort::Shared(Kind::Nothing) => Err(SharedStop::not_alone(item.token).told_as()),
         _ => Err(before.missing(expected, before.last, item.token)),
     }
 }
@@ -84,7 +72,7 @@ fn entry<'a>(scan: &mut Scan<'a>, expected: Expected) -> Result<Entry, Stop<'a>>
             Ok(Entry::Cell(Cell { at, to }))
         }
         Sort::Shared(Kind::Equals) => {
-            if let Kind::Nowhere = word.kind {
+            if word.kind == Kind::Nowhere {
                 return Err(before.missing(Expected::Name, before.last, word));
             }
             let place = place(scan, from)?;
@@ -98,11 +86,11 @@ fn entry<'a>(scan: &mut Scan<'a>, expected: Expected) -> Result<Entry, Stop<'a>>
 pub fn read_entries<'a>(
     scan: &mut Scan<'a>,
     heap: Global,
-    names: &[Span],
+    asked: &Asked<'a>,
 ) -> Result<Entries, Stop<'a>>
     ensures { OnOk result (Goes scan.old scan.new) }
 {
-    let mut entries = Entries::new(heap, names.len())?;
+    let mut entries = Entries::new(heap, asked.names.len())?;
     scan.skip_lines();
     if nothing(scan)? {
         return Ok(entries);
@@ -111,10 +99,10 @@ pub fn read_entries<'a>(
     loop {
         let from = scan.peek().span.start;
         let entry = entry(scan, expected)?;
-        entries.put(scan.text, names, entry, from)?;
-        let Next::More = after(scan, from)? else {
+        entries.put(asked, entry, from)?;
+        if !goes_on(scan, from)? {
             return Ok(entries);
-        };
+        }
         expected = Expected::Entry;
     }
 }

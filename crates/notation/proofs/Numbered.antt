@@ -1,5 +1,5 @@
 -- Names that are numbered in order: one more at the end, one list after another, and that all are below the count.
-use Rattle.std.proofs.Common.{◌≡◌, ℕ, suc, ◌+◌, ◌<◌, ◌≤◌, List, [], ◌∷◌, ◌++◌, map, length, get_or, sym, ap, ◌∙◌, subst, append_assoc, append-nil, arith}
+use Rattle.std.proofs.Common.{◌≡◌, ℕ, suc, ◌+◌, ◌<◌, ◌≤◌, List, [], ◌∷◌, ◌++◌, map, length, get_or, sym, refl, ap, ◌∙◌, subst, append_assoc, append-nil, arith}
 use Rattle.std.proofs.lemmas.List.{length-map}
 use Rattle.std.specs.List.{flat_map, AllByRecursion}
 use Rattle.claims.specs.Claims.{Pure, same, other, Atom, cell, row, Claim}
@@ -43,15 +43,20 @@ atoms_below n (cell x y ∷ cs) h = ((h.0, h.1.0), atoms_below n cs h.1.1)
 atoms_below n (row x y ∷ cs) h = ((h.0, h.1.0), atoms_below n cs h.1.1)
 
 -- one more part at the end
-module _ {X Y : Type 0} (names : Y → List ℕ) (of : X → Y) where
-  joined_push : (vs : List X) (v : X) → flat_map names (map of (vs ++ v ∷ [])) ≡ flat_map names (map of vs) ++ names (of v)
-  joined_push [] v = append-nil (names (of v))
-  joined_push (u ∷ vs) v = ap (λ l. names (of u) ++ l) (joined_push vs v) ∙ sym (append_assoc (names (of u)) (flat_map names (map of vs)) (names (of v)))
+module _ {X : Type 0} (names : X → List ℕ) where
+  joined_push : (vs : List X) (v : X) → flat_map names (vs ++ v ∷ []) ≡ flat_map names vs ++ names v
+  joined_push [] v = append-nil (names v)
+  joined_push (u ∷ vs) v = ap (λ l. names u ++ l) (joined_push vs v) ∙ sym (append_assoc (names u) (flat_map names vs) (names v))
 
-  pub in-order-push : {k m n : ℕ} (vs : List X) (v : X) (ws : List X) → ws ≡ vs ++ v ∷ [] → InOrder k (flat_map names (map of vs)) m → InOrder m (names (of v)) n → InOrder k (flat_map names (map of ws)) n
+  pub in-order-push : {k m n : ℕ} (vs : List X) (v : X) (ws : List X) → ws ≡ vs ++ v ∷ [] → InOrder k (flat_map names vs) m → InOrder m (names v) n → InOrder k (flat_map names ws) n
   in-order-push {k} {m} {n} vs v ws e a b =
       let P : List ℕ → Type 0 = λ l. InOrder k l n in
-      subst P (sym (ap (λ l. flat_map names (map of l)) e ∙ joined_push vs v)) (in-order-append a b)
+      subst P (sym (ap (flat_map names) e ∙ joined_push vs v)) (in-order-append a b)
+
+-- the names of parts that are read as others
+joined_map : {X Y : Type 0} (names : Y → List ℕ) (of : X → Y) (vs : List X) → flat_map names (map of vs) ≡ flat_map (λ v. names (of v)) vs
+joined_map names of [] = refl
+joined_map names of (v ∷ vs) = ap (λ l. names (of v) ++ l) (joined_map names of vs)
 
 two_accepted : {m n : ℕ} {a b : Claim} (spelled : List (List ℕ)) → n ≤ 64 → length spelled ≡ n → length (get_or spelled 0 []) ≡ 0 → Distinct spelled → Numbered 1 a m → Numbered m b n → Accepted (record { names = n; first = a; second = b }) spelled
 two_accepted {m} {n} {a} {b} spelled few e none apart x y =
@@ -91,11 +96,16 @@ one_new {k} {x} {n} e f =
     let g : suc k ≡ n = omega arith in
     subst P (sym e) (subst Q g (new done))
 
+pub in-order-as : {k n : ℕ} {xs ys : List ℕ} → xs ≡ ys → InOrder k ys n → InOrder k xs n
+in-order-as {k} {n} e a =
+    let P : List ℕ → Type 0 = λ l. InOrder k l n in
+    subst P (sym e) a
+
 -- no part yet
-pub in-order-none : {X Y : Type 0} (names : Y → List ℕ) (of : X → Y) {k : ℕ} (vs : List X) → vs ≡ [] → InOrder k (flat_map names (map of vs)) k
-in-order-none names of {k} vs e =
+pub in-order-none : {X : Type 0} (names : X → List ℕ) {k : ℕ} (vs : List X) → vs ≡ [] → InOrder k (flat_map names vs) k
+in-order-none names {k} vs e =
     let P : List ℕ → Type 0 = λ l. InOrder k l k in
-    subst P (sym (ap (λ l. flat_map names (map of l)) e)) done
+    subst P (sym (ap (flat_map names) e)) done
 
 -- the same where the counts and the text are known by equations
 pub both_accepted : {k m n : ℕ} {a b : Claim} (names : ℕ) (text was : List ℕ) (spans : List Span) → k ≡ 1 → names ≡ n → n ≤ 64 → n ≡ length spans → text ≡ was → length (get_or (spellings text spans) 0 []) ≡ 0 → Distinct (spellings text spans) → Numbered k a m → Numbered m b n → Accepted (record { names = names; first = a; second = b }) (spellings was spans)
@@ -105,9 +115,12 @@ both_accepted {k} {m} {n} {a} {b} names text was spans one equal few long still 
     let R : List ℕ → Type 0 = λ t. Accepted (record { names = n; first = a; second = b }) (spellings t spans) in
     subst Q (sym equal) (subst R still (two_accepted (spellings text spans) few (length-map spans (spelling text) ∙ sym long) none apart (subst P one x) y))
 
-pub claim_numbered : {X Y : Type 0} (f : X → Pure) (g : Y → Atom) {k m n : ℕ} (ps : List X) (cs : List Y) → InOrder k (flat_map pure_names (map f ps)) m → InOrder m (flat_map atom_names (map g cs)) n → length ps ≤ 256 → length cs ≤ 64 → Numbered k (record { pures = map f ps; atoms = map g cs }) n
-claim_numbered f g ps cs a b few-p few-a = record {
-  in_order = in-order-append a b;
-  few_pures = rw length-map few-p;
-  few_atoms = rw length-map few-a;
-}
+pub claim_numbered : {X Y : Type 0} (f : X → Pure) (g : Y → Atom) {k m n : ℕ} (ps : List X) (cs : List Y) → InOrder k (flat_map (λ p. pure_names (f p)) ps) m → InOrder m (flat_map (λ a. atom_names (g a)) cs) n → length ps ≤ 256 → length cs ≤ 64 → Numbered k (record { pures = map f ps; atoms = map g cs }) n
+claim_numbered f g {k} {m} {n} ps cs a b few-p few-a =
+    let P : List ℕ → Type 0 = λ l. InOrder k l m in
+    let Q : List ℕ → Type 0 = λ l. InOrder m l n in
+    record {
+      in_order = in-order-append (subst P (sym (joined_map pure_names f ps)) a) (subst Q (sym (joined_map atom_names g cs)) b);
+      few_pures = rw length-map few-p;
+      few_atoms = rw length-map few-a;
+    }

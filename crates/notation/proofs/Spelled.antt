@@ -1,12 +1,12 @@
 -- What is spelled where: a span cut to the text's length, one more name, and a name among others.
-use Rattle.std.proofs.Common.{◌≡◌, ℕ, zero, suc, ◌<◌, ◌≤◌, min, Bool, true, false, cond, List, [], ◌∷◌, ◌++◌, length, get_or, take, drop, Decides, sym, refl, ap, ◌∙◌, subst, ⊎_elim, arith}
+use Rattle.std.proofs.Common.{◌≡◌, ℕ, zero, suc, ◌<◌, ◌≤◌, min, Bool, true, false, cond, List, [], ◌∷◌, ◌++◌, length, get_or, take, drop, Some, None, Option, sym, refl, ap, ◌∙◌, subst, ⊎_elim, arith}
 use native.Mathlib.Nat.{min-eq_left, min-eq_right}
 use Rattle.std.specs.List.{between}
 use Rattle.std.proofs.str.Laws.{order}
 use Rattle.std.proofs.lemmas.List.{take_all, drop_all, get_or_append_left, get_or_push, length_push, get_or-map, map_push, length-map}
 use Rattle.std.proofs.lemmas.Slice.{between_is}
 use Rattle.notation.specs.declared.spans.Span.{Span}
-use Rattle.notation.specs.Spelling.{spelling, spellings, Distinct}
+use Rattle.notation.specs.Spelling.{spelling, spellings, Distinct, Found}
 
 take_cut : (e : ℕ) (xs : List ℕ) → take (min e (length xs)) xs ≡ take e xs
 take_cut e xs =
@@ -66,24 +66,21 @@ last_spelled text names more x i e long =
     ap (λ l. get_or (spellings text l) i []) e ∙ ap (λ l. get_or l i []) (map_push (spelling text) names x) ∙
     get_or_push (spellings text names) (spelling text x) [] i (length-map names (spelling text) ∙ long)
 
-never_both : (b : Bool) → b ≡ true → b ≡ false → ⊥
-never_both b p q = let z : ◌≡◌ {A = ℕ} 0 1 = cc in omega arith
+pub no_span : Span
+no_span = record { start = 0; end = 0 }
 
--- a search among the names: the name at i is spelled s
-module _ (text : List ℕ) (names items : List Span) (is : items ≡ names) where
-  here_spelled : (d : Span) (i : ℕ) (s : List ℕ) → i < length items → s ≡ spelling text (get_or items i d) → get_or (spellings text names) i [] ≡ s
-  here_spelled d i s lt e =
-      let P : List Span → Type 0 = λ l. get_or (spellings text l) i [] ≡ s in
-      subst P is (get_or-map (spelling text) items i d [] lt ∙ sym e)
+-- a search among the names: by their spans, and by how they are spelled
+module _ (text : List ℕ) (names : List Span) (w : List ℕ) where
+  abbrev pub SpanFound : Option ℕ → Type 0
+  SpanFound (Some i) = (i < length names) × (spelling text (get_or names i no_span) ≡ w)
+  SpanFound None = (k : ℕ) → k < length names → spelling text (get_or names k no_span) ≡ w → ⊥
 
-  pub found_here : (d : Span) (i : ℕ) (s w : List ℕ) (b : Bool) → i < length items → s ≡ spelling text (get_or items i d) → Decides b (s ≡ w) → b ≡ true → (i < length (spellings text names)) × (get_or (spellings text names) i [] ≡ w)
-  found_here d i s w b lt e test taken = (omega (arith, lt, ap length is, length-map names (spelling text)), here_spelled d i s lt e ∙ test.0 taken)
-
-  pub not_here : (d : Span) (i : ℕ) (s w : List ℕ) (b : Bool) → i < length items → s ≡ spelling text (get_or items i d) → Decides b (s ≡ w) → b ≡ false → get_or (spellings text names) i [] ≡ w → ⊥
-  not_here d i s w b lt e test left h = never_both b (test.1 (sym (here_spelled d i s lt e) ∙ h)) left
-
-  pub nowhere_there : (i : ℕ) (w : List ℕ) → length items ≤ i → ((k : ℕ) → k < i → get_or (spellings text names) k [] ≡ w → ⊥) → (k : ℕ) → k < length (spellings text names) → get_or (spellings text names) k [] ≡ w → ⊥
-  nowhere_there i w le none k lt e = none k (omega (arith, lt, le, ap length is, length-map names (spelling text))) e
+  pub spelling_found : (r : Option ℕ) → SpanFound r → Found (spellings text names) w r
+  spelling_found (Some i) h =
+      (omega (arith, h.0, length-map names (spelling text)), get_or-map (spelling text) names i no_span [] h.0 ∙ h.1)
+  spelling_found None none = λ k lt e.
+      let within : k < length names = omega (arith, lt, length-map names (spelling text)) in
+      none k within (sym (get_or-map (spelling text) names k no_span [] within) ∙ e)
 
 -- after an attempt to add a name, whether there was memory for it or not
 module _ (text : List ℕ) (names more : List Span) (x : Span) where

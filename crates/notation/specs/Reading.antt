@@ -21,7 +21,7 @@ Gives text (Err e) = Unit {0}
 
 -- how much of the text is left
 abbrev pub left : Reader → ℕ
-left r = length r.text.now - r.at
+left r = length r.cursor.text.now - r.cursor.at
 
 -- unless it is the end, less of the text is left
 abbrev pub Advances : {E : Type 0} → Reader → Result (Option (Result Asked E)) AllocError → Reader → Type 0

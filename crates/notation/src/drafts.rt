@@ -4,14 +4,11 @@ ghost use Rattle.std.specs.Prelude.{◌≤◌, vec_len};
 use crate::problems::Problem;
 use crate::spans::Span;
 use crate::stops::Stop;
+use claims::layouts::{MOST_ATOMS, MOST_PURES};
 use std::alloc::Global;
 
-pub const MOST_PURES: usize = 256;
-
-pub const MOST_ATOMS: usize = 64;
-
 // Which of the two claims of a question it is.
-#[derive(Clone, Copy)]
+#[derive(Clone, Copy, PartialEq)]
 pub enum Side {
     First,
     Second,
@@ -30,6 +27,21 @@ pub struct Pair {
     pub right: Mention,
 }
 
+// What a part says of its two names.
+#[derive(Clone, Copy, PartialEq)]
+pub enum Relation {
+    Same,
+    Other,
+    Cell,
+    Row,
+}
+
+#[derive(Clone, Copy)]
+pub struct Part {
+    pub relation: Relation,
+    pub pair: Pair,
+}
+
 #[derive(Clone, Copy)]
 pub enum DraftPure {
     Same(Pair),
@@ -40,12 +52,6 @@ pub enum DraftPure {
 pub enum DraftAtom {
     Cell(Pair),
     Row(Pair),
-}
-
-#[derive(Clone, Copy)]
-pub enum Part {
-    Pure(DraftPure),
-    Atom(DraftAtom),
 }
 
 // The parts of a claim, no more than it may have.
@@ -67,20 +73,28 @@ impl Draft {
 
     // Adds the part, which stands at `at` in the text, or refuses one too many.
     pub fn add<'a>(&mut self, part: Part, at: usize) -> Result<(), Stop<Problem<'a>>> {
-        match part {
-            Part::Pure(pure) => {
-                if self.pures.len() >= MOST_PURES {
-                    return Err(Stop::at(at, Problem::ManyPures));
-                }
-                self.pures.push(pure)?;
-            }
-            Part::Atom(atom) => {
-                if self.atoms.len() >= MOST_ATOMS {
-                    return Err(Stop::at(at, Problem::ManyAtoms));
-                }
-                self.atoms.push(atom)?;
-            }
+        let Part { relation, pair } = part;
+        match relation {
+            Relation::Same => self.add_pure(DraftPure::Same(pair), at),
+            Relation::Other => self.add_pure(DraftPure::Other(pair), at),
+            Relation::Cell => self.add_atom(DraftAtom::Cell(pair), at),
+            Relation::Row => self.add_atom(DraftAtom::Row(pair), at),
         }
+    }
+
+    fn add_pure<'a>(&mut self, pure: DraftPure, at: usize) -> Result<(), Stop<Problem<'a>>> {
+        if self.pures.len() >= MOST_PURES as usize {
+            return Err(Stop::at(at, Problem::ManyPures));
+        }
+        self.pures.push(pure)?;
+        Ok(())
+    }
+
+    fn add_atom<'a>(&mut self, atom: DraftAtom, at: usize) -> Result<(), Stop<Problem<'a>>> {
+        if self.atoms.len() >= MOST_ATOMS as usize {
+            return Err(Stop::at(at, Problem::ManyAtoms));
+        }
+        self.atoms.push(atom)?;
         Ok(())
     }
 }

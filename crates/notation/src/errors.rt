@@ -1,4 +1,6 @@
 // Errors, with the line and the column where they stand. `P` is what can be wrong with a text.
+ghost use Rattle.std.specs.Prelude.{◌≡◌};
+
 use std::fmt;
 
 // A problem and where it is. Lines and columns count from 1, and columns count characters.
@@ -13,7 +15,11 @@ pub struct Error<P> {
 
 impl<P> Error<P> {
     // The same error, told as a problem of another kind.
-    pub fn told_as<Q: From<P>>(self) -> Error<Q> {
+    pub fn told_as<Q: From<P>>(self) -> Error<Q>
+        ensures line { result.line ≡ self.line }
+        ensures column { result.column ≡ self.column }
+        ensures at { result.at ≡ self.at }
+    {
         let Error {
             line,
             column,

@@ -1,6 +1,7 @@
 // The faults that both forms of the notation share, and the names in them.
-ghost use Rattle.std.specs.Prelude.{◌≡◌, OnOk};
+ghost use Rattle.std.specs.Prelude.{◌≡◌, Some, IsSome, OnOk};
 ghost use Rattle.notation.specs.Steps.{Passes};
+ghost use Rattle.notation.specs.Stops.{place_of};
 
 use crate::drafts::Mention;
 use crate::problems::{Expected, Found, Missing, Problem};
@@ -9,6 +10,15 @@ use crate::scans::Scan;
 use crate::spans::Span;
 use crate::stops::Stop;
 use crate::tokens::{Kind, Token};
+
+impl<'a> Stop<Problem<'a>> {
+    // `nothing` beside what the token begins.
+    pub fn not_alone(token: Token) -> Stop<Problem<'a>>
+        ensures { place_of result ≡ Some token.span.start }
+    {
+        Stop::at(token.span.start, Problem::NotAlone)
+    }
+}
 
 impl<'a> Scan<'a> {
     fn quote(&self, span: Span) -> Quote<'a> {
@@ -21,7 +31,9 @@ impl<'a> Scan<'a> {
         expected: E,
         from: usize,
         token: Token,
-    ) -> Stop<P> {
+    ) -> Stop<P>
+        ensures { IsSome (place_of result) }
+    {
         let start = token.span.start;
         let word = self.quote(token.span);
         let (at, found) = match token.kind {
@@ -55,8 +67,25 @@ impl<'a> Scan<'a> {
         )
     }
 
+    // What is wrong with a token that begins no part, where `expected` says what it may be.
+    pub fn no_part<E: Drop, P: From<Missing<'a, E>> + From<Problem<'a>>>(
+        &self,
+        expected: E,
+        token: Token,
+    ) -> Stop<P>
+        ensures { IsSome (place_of result) }
+    {
+        match token.kind {
+            Kind::Name => self.unknown(token).told_as(),
+            Kind::Nothing => Stop::not_alone(token).told_as(),
+            _ => self.missing(expected, self.last, token),
+        }
+    }
+
     // A word that is none of the notation where a part was expected.
-    pub fn unknown(&self, token: Token) -> Stop<Problem<'a>> {
+    pub fn unknown(&self, token: Token) -> Stop<Problem<'a>>
+        ensures { place_of result ≡ Some token.span.start }
+    {
         Stop::at(
             token.span.start,
             Problem::UnknownWord(self.quote(token.span)),

@@ -5,6 +5,8 @@
 // people, and `normal_form` prints a question so that reading it again gives the same question.
 #![tactic(auto)]
 
+mod characters;
+pub mod cursors;
 pub mod drafts;
 pub mod errors;
 pub mod faults;
@@ -23,11 +25,12 @@ pub mod text_readers;
 pub mod tokens;
 pub mod words;
 
+pub use cursors::MOST_BYTES;
 pub use errors::Error;
 pub use normals::normal_form;
 pub use numbering::Asked;
 pub use problems::Problem;
-pub use readers::{MOST_BYTES, Reader};
+pub use readers::Reader;
 pub use reports::report;
 pub use spans::Span;
 pub use text_readers::TextReader;

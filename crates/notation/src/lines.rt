@@ -2,7 +2,7 @@
 ghost use Rattle.std.specs.Prelude.{◌≡◌, OnOk};
 ghost use Rattle.notation.specs.Steps.{Goes, Passes};
 
-use crate::drafts::{Draft, DraftAtom, DraftPure, Mention, Pair, Part, Side};
+use crate::drafts::{Draft, Mention, Pair, Part, Relation, Side};
 use crate::problems::{Expected, Problem};
 use crate::scans::Scan;
 use crate::stops::Stop;
@@ -32,7 +32,10 @@ impl<'a> Scan<'a> {
         self.sign(Kind::Comma, Expected::Comma, from)?;
         let right = self.mention(from)?;
         self.sign(Kind::Close, Expected::Close, from)?;
-        Ok(Part::Atom(DraftAtom::Row(Pair { left, right })))
+        Ok(Part {
+            relation: Relation::Row,
+            pair: Pair { left, right },
+        })
     }
 
     // What stands after a name that begins at `from`.
@@ -41,17 +44,15 @@ impl<'a> Scan<'a> {
     {
         let before = *self;
         let token = self.take();
-        match token.kind {
-            Kind::Equals | Kind::Differs | Kind::Arrow => {}
+        let relation = match token.kind {
+            Kind::Equals => Relation::Same,
+            Kind::Differs => Relation::Other,
+            Kind::Arrow => Relation::Cell,
             _ => return Err(before.missing(Expected::Relation, from, token)),
-        }
+        };
         let right = self.mention(from)?;
         let pair = Pair { left, right };
-        Ok(match token.kind {
-            Kind::Equals => Part::Pure(DraftPure::Same(pair)),
-            Kind::Differs => Part::Pure(DraftPure::Other(pair)),
-            _ => Part::Atom(DraftAtom::Cell(pair)),
-        })
+        Ok(Part { relation, pair })
     }
 
     // A term, which is no part at all if it is `emp`.

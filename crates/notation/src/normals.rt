@@ -3,9 +3,25 @@
 use crate::numbering::Asked;
 use claims::{Atom, Claim, Name, Pure};
 use std::alloc::{AllocError, Global};
+use std::fmt;
 use std::str::from_utf8;
 
 const INDENT: &str = "     ";
+
+// The word that a part begins with, and its names.
+fn pure_words(pure: Pure) -> (&'static str, Name, Name) {
+    match pure {
+        Pure::Same(x, y) => ("same", x, y),
+        Pure::Other(x, y) => ("other", x, y),
+    }
+}
+
+fn atom_words(atom: Atom) -> (&'static str, Name, Name) {
+    match atom {
+        Atom::Cell(x, y) => ("cell", x, y),
+        Atom::Row(x, y) => ("row", x, y),
+    }
+}
 
 impl<'a> Asked<'a> {
     // How the name is spelled in the text that was read.
@@ -13,68 +29,42 @@ impl<'a> Asked<'a> {
         if name.0 == 0 {
             return "nowhere";
         }
-        match self.names.as_slice().get(usize::from(name.0)) {
+        match self.names.get(usize::from(name.0)) {
             Some(span) => from_utf8(span.of(self.text)).unwrap_or("?"),
             None => "?",
         }
     }
 
-    fn print_part(
+    // Writes the claim behind the word that begins it.
+    fn write_claim<W: fmt::Write>(
         &self,
-        out: &mut String,
+        f: &mut fmt::Formatter<W>,
         lead: &str,
-        word: &str,
-        x: Name,
-        y: Name,
-    ) -> Result<(), AllocError> {
-        out.push_str(lead)?;
-        out.push_str(word)?;
-        out.push_str(self.spelled(x))?;
-        out.push(' ')?;
-        out.push_str(self.spelled(y))?;
-        out.push('\n')
-    }
-
-    fn print_pures(&self, out: &mut String, lead: &str, pures: &[Pure]) -> Result<(), AllocError> {
-        for (i, pure) in pures.iter().enumerate() {
+        claim: &Claim,
+    ) -> fmt::Result {
+        if claim.pures.is_empty() && claim.atoms.is_empty() {
+            return write!(f, "{lead}nothing\n");
+        }
+        let pures = claim.pures.iter().map(|pure| pure_words(*pure));
+        let atoms = claim.atoms.iter().map(|atom| atom_words(*atom));
+        for (i, (word, x, y)) in pures.chain(atoms).enumerate() {
             let lead = if i == 0 { lead } else { INDENT };
-            match *pure {
-                Pure::Same(x, y) => self.print_part(out, lead, "same ", x, y)?,
-                Pure::Other(x, y) => self.print_part(out, lead, "other ", x, y)?,
-            }
+            let x = self.spelled(x);
+            let y = self.spelled(y);
+            write!(f, "{lead}{word} {x} {y}\n")?;
         }
         Ok(())
     }
+}
 
-    fn print_atoms(&self, out: &mut String, lead: &str, atoms: &[Atom]) -> Result<(), AllocError> {
-        for (i, atom) in atoms.iter().enumerate() {
-            let lead = if i == 0 { lead } else { INDENT };
-            match *atom {
-                Atom::Cell(x, y) => self.print_part(out, lead, "cell ", x, y)?,
-                Atom::Row(x, y) => self.print_part(out, lead, "row ", x, y)?,
-            }
-        }
-        Ok(())
-    }
-
-    fn print_claim(&self, out: &mut String, lead: &str, claim: &Claim) -> Result<(), AllocError> {
-        let none = claim.pures.is_empty();
-        if none && claim.atoms.is_empty() {
-            out.push_str(lead)?;
-            return out.push_str("nothing\n");
-        }
-        self.print_pures(out, lead, claim.pures.as_slice())?;
-        self.print_atoms(
-            out,
-            if none { lead } else { INDENT },
-            claim.atoms.as_slice(),
-        )
+// The normal form of the question.
+impl fmt::Display for Asked<'_> {
+    fn fmt<W: fmt::Write>(&self, f: &mut fmt::Formatter<W>) -> fmt::Result {
+        self.write_claim(f, "if   ", &self.question.first)?;
+        self.write_claim(f, "then ", &self.question.second)
     }
 }
 
 pub fn normal_form(heap: Global, asked: &Asked) -> Result<String, AllocError> {
-    let mut out = String::new(heap);
-    asked.print_claim(&mut out, "if   ", &asked.question.first)?;
-    asked.print_claim(&mut out, "then ", &asked.question.second)?;
-    Ok(out)
+    format!(in heap; "{asked}")
 }

@@ -1,7 +1,7 @@
 // Numbers for the names of a question, in the order of its words: each claim's same and other before its
 // cells and rows, the first claim before the second. The normal form prints the parts in that order, so it
 // numbers the names in the same way as the text that was read.
-ghost use Rattle.std.specs.Prelude.{◌≡◌, ◌<◌, ◌≤◌, [], ◌∷◌, map, length, IfSome, IfOk, vec_len, slice_index_or};
+ghost use Rattle.std.specs.Prelude.{◌≡◌, ℕ, ◌<◌, ◌≤◌, List, [], ◌∷◌, length, IfSome, IfOk, vec_len, slice_index_or};
 ghost use Rattle.std.specs.List.{flat_map};
 ghost use Rattle.claims.specs.Meaning.{pure_of, atom_of, claim_of};
 ghost use Rattle.notation.specs.Spelling.{Distinct, Found, spellings, mention_spelling};
@@ -13,11 +13,9 @@ use crate::problems::Problem;
 use crate::quotes::Quote;
 use crate::spans::Span;
 use crate::stops::Stop;
+use claims::layouts::MOST_NAMES;
 use claims::{Atom, Claim, Name, Pure, Question};
 use std::alloc::Global;
-
-// The most names of a question, counting nowhere.
-pub const MOST_NAMES: usize = 64;
 
 // A question that was asked in a text.
 #[derive(Drop)]
@@ -25,10 +23,69 @@ pub struct Asked<'a> {
     pub question: Question,
     // the whole text, for the spelling of the names
     pub text: &'a [u8],
-    // where each name stands first in the question; the span of nowhere is empty
+    // where each name stands first in the question, for its spelling and for errors about it; the span of nowhere
+    // is empty
     pub names: Vec<Span>,
     // the line where the question begins, from 1
     pub line: usize,
+}
+
+// A part of a claim as it is written: it becomes one with two numbers in place of its names.
+trait Drafted: Copy {
+    type Part: Drop;
+
+    ghost names: { Self.Part → List ℕ };
+
+    fn pair(self) -> Pair;
+
+    fn numbered(self, x: Name, y: Name) -> Self::Part
+        ensures { names result ≡ x.0 ∷ y.0 ∷ [] };
+}
+
+impl Drafted for DraftPure {
+    type Part = Pure;
+
+    ghost names = { λ p. pure_names (pure_of p) };
+
+    fn pair(self) -> Pair {
+        match self {
+            DraftPure::Same(pair) | DraftPure::Other(pair) => pair,
+        }
+    }
+
+    fn numbered(self, x: Name, y: Name) -> Pure {
+        match self {
+            DraftPure::Same(_) => Pure::Same(x, y),
+            DraftPure::Other(_) => Pure::Other(x, y),
+        }
+    }
+}
+
+impl Drafted for DraftAtom {
+    type Part = Atom;
+
+    ghost names = { λ a. atom_names (atom_of a) };
+
+    fn pair(self) -> Pair {
+        match self {
+            DraftAtom::Cell(pair) | DraftAtom::Row(pair) => pair,
+        }
+    }
+
+    fn numbered(self, x: Name, y: Name) -> Atom {
+        match self {
+            DraftAtom::Cell(_) => Atom::Cell(x, y),
+            DraftAtom::Row(_) => Atom::Row(x, y),
+        }
+    }
+}
+
+// Which of the names is spelled so in the text.
+pub fn find(text: &[u8], names: &[Span], spelled: &[u8]) -> Option<usize>
+    ensures within { IfSome result (λ i. i < length names.now) }
+    ensures found { Found (spellings text.now names.now) spelled.now result }
+{
+    names.iter().position(|name| name.spells(text, spelled))
 }
 
 // The names so far, by where they stand first. The first is nowhere.
@@ -52,19 +109,6 @@ impl<'a> Table<'a> {
         Ok(Table { text, names })
     }
 
-    // The number of the name that is spelled so.
-    fn find(&self, spelled: &[u8]) -> Option<usize>
-        ensures within { IfSome result (λ i. i < vec_len self.now.names) }
-        ensures found { Found (spellings self.now.text.now self.now.names.items) spelled.now result }
-    {
-        for (i, name) in self.names.iter().enumerate() {
-            if name.of(self.text) == spelled {
-                return Some(i);
-            }
-        }
-        None
-    }
-
     // The number of a name: one that came before, or the next.
     fn number(&mut self, mention: Mention) -> Result<Name, Stop<Problem<'a>>>
         ensures same { self.new.text.now ≡ self.old.text.now }
@@ -75,86 +119,49 @@ impl<'a> Table<'a> {
             return Ok(Name(0));
         };
         let spelled = span.of(self.text);
-        if let Some(i) = self.find(spelled) {
+        if let Some(i) = find(self.text, self.names.as_slice(), spelled) {
             return Ok(Name(i as u8));
         }
         let count = self.names.len();
-        if count >= MOST_NAMES {
+        if count >= MOST_NAMES as usize {
             return Err(Stop::at(span.start, Problem::ManyNames(Quote::new(spelled))));
         }
         self.names.push(span)?;
         Ok(Name(count as u8))
     }
 
-    fn pair(&mut self, pair: Pair) -> Result<(Name, Name), Stop<Problem<'a>>>
+    // The part of a claim that the draft is.
+    fn part<D: Drafted>(&mut self, draft: D) -> Result<D::Part, Stop<Problem<'a>>>
         ensures same { self.new.text.now ≡ self.old.text.now }
-        ensures order { IfOk result (λ p. InOrder (vec_len self.old.names) (p.0.0 ∷ p.1.0 ∷ []) (vec_len self.new.names)) }
+        ensures order { IfOk result (λ p. InOrder (vec_len self.old.names) (D.names p) (vec_len self.new.names)) }
     {
-        let x = self.number(pair.left)?;
-        let y = self.number(pair.right)?;
-        Ok((x, y))
+        let Pair { left, right } = draft.pair();
+        let x = self.number(left)?;
+        let y = self.number(right)?;
+        Ok(draft.numbered(x, y))
     }
 
-    fn pure(&mut self, draft: DraftPure) -> Result<Pure, Stop<Problem<'a>>>
+    fn parts<D: Drafted>(
+        &mut self,
+        heap: Global,
+        drafts: &[D],
+    ) -> Result<Vec<D::Part>, Stop<Problem<'a>>>
         ensures same { self.new.text.now ≡ self.old.text.now }
-        ensures order { IfOk result (λ p. InOrder (vec_len self.old.names) (pure_names (pure_of p)) (vec_len self.new.names)) }
+        ensures order { IfOk result (λ v. InOrder (vec_len self.old.names) (flat_map D.names v.items) (vec_len self.new.names) × (vec_len v ≡ length drafts.now)) }
     {
-        match draft {
-            DraftPure::Same(pair) => {
-                let (x, y) = self.pair(pair)?;
-                Ok(Pure::Same(x, y))
-            }
-            DraftPure::Other(pair) => {
-                let (x, y) = self.pair(pair)?;
-                Ok(Pure::Other(x, y))
-            }
-        }
-    }
-
-    fn atom(&mut self, draft: DraftAtom) -> Result<Atom, Stop<Problem<'a>>>
-        ensures same { self.new.text.now ≡ self.old.text.now }
-        ensures order { IfOk result (λ a. InOrder (vec_len self.old.names) (atom_names (atom_of a)) (vec_len self.new.names)) }
-    {
-        match draft {
-            DraftAtom::Cell(pair) => {
-                let (x, y) = self.pair(pair)?;
-                Ok(Atom::Cell(x, y))
-            }
-            DraftAtom::Row(pair) => {
-                let (x, y) = self.pair(pair)?;
-                Ok(Atom::Row(x, y))
-            }
-        }
-    }
-
-    fn pures(&mut self, heap: Global, drafts: &[DraftPure]) -> Result<Vec<Pure>, Stop<Problem<'a>>>
-        ensures same { self.new.text.now ≡ self.old.text.now }
-        ensures order { IfOk result (λ v. InOrder (vec_len self.old.names) (flat_map pure_names (map pure_of v.items)) (vec_len self.new.names) × (vec_len v ≡ length drafts.now)) }
-    {
-        let mut pures = Vec::new(heap);
+        let mut parts = Vec::new(heap);
         for draft in drafts {
-            pures.push(self.pure(*draft)?)?;
+            parts.push(self.part(*draft)?)?;
         }
-        Ok(pures)
-    }
-
-    fn atoms(&mut self, heap: Global, drafts: &[DraftAtom]) -> Result<Vec<Atom>, Stop<Problem<'a>>>
-        ensures same { self.new.text.now ≡ self.old.text.now }
-        ensures order { IfOk result (λ v. InOrder (vec_len self.old.names) (flat_map atom_names (map atom_of v.items)) (vec_len self.new.names) × (vec_len v ≡ length drafts.now)) }
-    {
-        let mut atoms = Vec::new(heap);
-        for draft in drafts {
-            atoms.push(self.atom(*draft)?)?;
-        }
-        Ok(atoms)
+        Ok(parts)
     }
 
     fn claim(&mut self, heap: Global, draft: &Draft) -> Result<Claim, Stop<Problem<'a>>>
         ensures same { self.new.text.now ≡ self.old.text.now }
         ensures order { IfOk result (λ c. Numbered (vec_len self.old.names) (claim_of c) (vec_len self.new.names)) }
     {
-        let pures = self.pures(heap, draft.pures.as_slice())?;
-        let atoms = self.atoms(heap, draft.atoms.as_slice())?;
+        let pures = self.parts(heap, draft.pures.as_slice())?;
+        let atoms = self.parts(heap, draft.atoms.as_slice())?;
         Ok(Claim { pures, atoms })
     }
 }

@@ -1,5 +1,9 @@
 // Lines and columns. They are counted onward from a place that is known, so that a text is counted over once
 // and not once for each error in it.
+ghost use Rattle.std.specs.Prelude.{◌≡◌};
+
+use crate::characters::columns;
+use crate::errors::Error;
 
 // A byte of a text, with its line and column, both from 1. Columns count characters.
 #[derive(Clone, Copy)]
@@ -19,26 +23,33 @@ impl Place {
         }
     }
 
-    // The place of the byte `to` of the text, if it is further on.
-    pub fn moved(self, text: &[u8], to: usize) -> Place {
-        let from = self.at;
-        if from > to || to > text.len() {
-            return self;
-        }
-        let mut line = self.line;
-        let mut column = self.column;
-        for byte in &text[from..to] {
-            if *byte == b'\n' {
-                line = line.saturating_add(1);
-                column = 1;
-            } else if *byte & 0xc0 != 0x80 {
-                column = column.saturating_add(1);
-            }
-        }
-        Place {
-            at: to,
+    // The problem as an error at this place.
+    pub fn error<P>(self, problem: P) -> Error<P>
+        ensures { result ≡ record { line = self.line; column = self.column; at = self.at; problem = problem } }
+    {
+        let Place { at, line, column } = self;
+        Error {
             line,
             column,
+            at,
+            problem,
+        }
+    }
+
+    // The place of the byte `to` of the text, if it is further on.
+    pub fn moved(self, text: &[u8], to: usize) -> Place {
+        let Some(passed) = text.get(self.at..to) else {
+            return self;
+        };
+        let lines = passed.iter().filter(|byte| **byte == b'\n').count();
+        let (from, begun) = match passed.iter().rposition(|byte| *byte == b'\n') {
+            Some(end) => (1, &passed[end + 1..]),
+            None => (self.column, passed),
+        };
+        Place {
+            at: to,
+            line: self.line.saturating_add(lines),
+            column: columns(begun).saturating_add(from),
         }
     }
 }

@@ -1,15 +1,20 @@
-// Short pieces of a text, to be quoted in a message.
-ghost use Rattle.std.specs.Prelude.{◌≤◌};
+// Short pieces of a text, to be shown in a message.
+ghost use Rattle.std.specs.Prelude.{◌≤◌, length};
 
+use crate::characters::{begins_character, shown};
 use std::fmt;
 use std::str::from_utf8;
 
-// What a message quotes of a text, and whether the rest was cut off.
+// What a message shows of a text, and whether the rest was cut off.
 #[derive(Clone, Copy)]
-pub struct Quote<'a> {
+pub struct Excerpt<'a> {
     text: &'a str,
     cut: bool,
 }
+
+// An excerpt between quotation marks.
+#[derive(Clone, Copy)]
+pub struct Quote<'a>(Excerpt<'a>);
 
 const LONGEST: usize = 40;
 
@@ -17,15 +22,19 @@ const LONGEST: usize = 40;
 pub fn boundary(bytes: &[u8], at: usize) -> usize
     ensures { result ≤ at }
 {
-    let mut end = at;
-    while end > 0 && end < bytes.len() && bytes[end] & 0xc0 == 0x80 {
-        end -= 1;
+    if at >= bytes.len() {
+        return at;
     }
-    end
+    bytes[0..=at]
+        .iter()
+        .rposition(|byte| begins_character(*byte))
+        .unwrap_or(0)
 }
 
-impl<'a> Quote<'a> {
-    pub fn new(bytes: &'a [u8]) -> Quote<'a> {
+impl<'a> Excerpt<'a> {
+    pub fn new(bytes: &'a [u8]) -> Excerpt<'a>
+        ensures { length result.text.now ≤ 40 }
+    {
         let cut = bytes.len() > LONGEST;
         let end = if cut {
             boundary(bytes, LONGEST)
@@ -33,29 +42,36 @@ impl<'a> Quote<'a> {
             bytes.len()
         };
         let text = from_utf8(&bytes[0..end]).unwrap_or("?");
-        Quote { text, cut }
+        Excerpt { text, cut }
+    }
+}
+
+impl<'a> Quote<'a> {
+    pub fn new(bytes: &'a [u8]) -> Quote<'a> {
+        Quote(Excerpt::new(bytes))
     }
 
     // Does it begin with a control character?
     pub fn is_control(&self) -> bool {
-        match self.text.chars().next() {
-            Some(c) => c.is_control(),
-            None => false,
-        }
+        self.0.text.chars().next().is_some_and(|c| c.is_control())
     }
 
     pub fn is_empty(&self) -> bool {
-        self.text.is_empty()
+        self.0.text.is_empty()
     }
 }
 
-// Control characters would disturb a terminal, so `?` stands for each.
+impl fmt::Display for Excerpt<'_> {
+    fn fmt<W: fmt::Write>(&self, f: &mut fmt::Formatter<W>) -> fmt::Result {
+        for c in self.text.chars() {
+            f.write_char(shown(c))?;
+        }
+        f.write_str(if self.cut { "..." } else { "" })
+    }
+}
+
 impl fmt::Display for Quote<'_> {
     fn fmt<W: fmt::Write>(&self, f: &mut fmt::Formatter<W>) -> fmt::Result {
-        f.write_char('`')?;
-        for c in self.text.chars() {
-            f.write_char(if c.is_control() { '?' } else { c })?;
-        }
-        f.write_str(if self.cut { "...`" } else { "`" })
+        write!(f, "`{}`", self.0)
     }
 }

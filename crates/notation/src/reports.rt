@@ -1,4 +1,7 @@
 // An error as lines for people: where and what it is, the line of the text, and a caret under the column.
+ghost use Rattle.std.specs.Prelude.{◌≤◌, length};
+
+use crate::characters::{begins_character, columns, ends_line, shown};
 use crate::errors::Error;
 use crate::spans::Span;
 use std::alloc::{AllocError, Global};
@@ -10,53 +13,39 @@ const WIDEST: usize = 80;
 // What is left of it then, without the `...` on both sides.
 const KEPT: usize = 70;
 
-fn begins_character(byte: u8) -> bool {
-    byte & 0xc0 != 0x80
+// Where the character begins that has so many columns of the line before it, or the line ends.
+fn width(line: &[u8], columns: usize) -> usize
+    ensures { result ≤ length line.now }
+{
+    line.iter()
+        .enumerate()
+        .filter(|(_, byte)| begins_character(**byte))
+        .nth(columns)
+        .map_or(line.len(), |(at, _)| at)
 }
 
 // The place so many columns further on in the line, or the line's end.
 fn forward(text: &[u8], from: usize, columns: usize) -> usize {
-    let mut left = columns;
-    for at in from..text.len() {
-        let byte = text[at];
-        if byte == b'\n' || byte == b'\r' {
-            return at;
-        }
-        if begins_character(byte) {
-            if left == 0 {
-                return at;
-            }
-            left -= 1;
-        }
-    }
-    text.len()
+    let from = from.min(text.len());
+    let rest = &text[from..];
+    let end = rest
+        .iter()
+        .position(|byte| ends_line(*byte))
+        .unwrap_or(rest.len());
+    from + width(&rest[0..end], columns)
 }
 
 // The place so many columns further back, or the text's beginning.
 fn back(text: &[u8], from: usize, columns: usize) -> usize {
     let end = from.min(text.len());
-    let mut left = columns;
-    let mut start = end;
-    for at in (0..end).rev() {
-        if left == 0 {
-            return start;
-        }
-        if begins_character(text[at]) {
-            left -= 1;
-            start = at;
-        }
-    }
-    start
-}
-
-fn columns(bytes: &[u8]) -> usize {
-    let mut count = 0usize;
-    for byte in bytes {
-        if begins_character(*byte) {
-            count = count.saturating_add(1);
-        }
-    }
-    count
+    text[0..end]
+        .iter()
+        .enumerate()
+        .rev()
+        .filter(|(_, byte)| begins_character(**byte))
+        .take(columns)
+        .last()
+        .map_or(end, |(at, _)| at)
 }
 
 // The part of a line that is shown.
@@ -94,15 +83,9 @@ fn window_around(text: &[u8], at: usize, column: usize) -> Window {
     }
 }
 
-// A tab is shown as one column, and a control character would disturb a terminal.
+// A tab is shown as one column.
 fn visible(c: char) -> char {
-    if c == '\t' {
-        ' '
-    } else if c.is_control() {
-        '?'
-    } else {
-        c
-    }
+    if c == '\t' { ' ' } else { shown(c) }
 }
 
 fn show_line(

@@ -1,5 +1,5 @@
 // Stretches of a text, by their bytes.
-ghost use Rattle.std.specs.Prelude.{◌≡◌};
+ghost use Rattle.std.specs.Prelude.{◌≡◌, Decides};
 ghost use Rattle.std.specs.List.{between};
 
 // The bytes from `start` up to `end`, and not `end` itself.
@@ -17,5 +17,12 @@ impl Span {
         let end = self.end.min(text.len());
         let start = self.start.min(end);
         &text[start..end]
+    }
+
+    // Is that what it covers in the text?
+    pub fn spells(self, text: &[u8], spelled: &[u8]) -> bool
+        ensures { Decides result (between self.start self.end text.now ≡ spelled.now) }
+    {
+        self.of(text) == spelled
     }
 }

@@ -1,4 +1,7 @@
 // Why the reading of a text stops: there is no memory left, or a fault in the text. `P` is what can be wrong with it.
+ghost use Rattle.std.specs.Prelude.{◌≡◌, Some};
+ghost use Rattle.notation.specs.Stops.{place_of};
+
 use std::alloc::{AllocError, AllocFailed};
 
 // A problem at a byte of the text. Its line and column are counted later, once.
@@ -15,12 +18,16 @@ pub enum Stop<P> {
 }
 
 impl<P> Stop<P> {
-    pub fn at(at: usize, problem: P) -> Stop<P> {
+    pub fn at(at: usize, problem: P) -> Stop<P>
+        ensures { place_of result ≡ Some at }
+    {
         Stop::Fault(Fault { at, problem })
     }
 
     // The same stop, told as a problem of another kind.
-    pub fn told_as<Q: From<P>>(self) -> Stop<Q> {
+    pub fn told_as<Q: From<P>>(self) -> Stop<Q>
+        ensures { place_of result ≡ place_of self }
+    {
         match self {
             Stop::Memory(e) => Stop::Memory(e),
             Stop::Fault(Fault { at, problem }) => Stop::at(at, Q::from(problem)),

@@ -2,6 +2,8 @@
 ghost use Rattle.std.specs.Prelude.{◌≡◌, ◌+◌, ◌<◌, ◌≤◌, length};
 ghost use Rattle.notation.specs.Steps.{Step, Goes};
 
+use crate::characters::{ends_line, is_blank};
+use crate::drafts::Relation;
 use crate::scans::Scan;
 use crate::spans::Span;
 
@@ -13,10 +15,8 @@ pub enum Kind {
     Nowhere,
     If,
     Then,
-    Same,
-    Other,
-    Cell,
-    Row,
+    // `same`, `other`, `cell` or `row`
+    Relation(Relation),
     Nothing,
     Emp,
     Ls,
@@ -41,11 +41,10 @@ pub enum Kind {
 impl Kind {
     // Is it a word of the notation that can't be a name?
     pub fn is_reserved(self) -> bool {
-        match self {
-            Kind::If | Kind::Then | Kind::Same | Kind::Other | Kind::Cell | Kind::Row => true,
-            Kind::Nothing | Kind::Emp | Kind::Ls => true,
-            _ => false,
-        }
+        matches!(
+            self,
+            Kind::If | Kind::Then | Kind::Relation(_) | Kind::Nothing | Kind::Emp | Kind::Ls
+        )
     }
 }
 
@@ -60,27 +59,27 @@ fn is_letter(b: u8) -> bool {
     b.is_ascii_alphanumeric() || b == b'_' || b == b'\'' || b >= 0x80
 }
 
+// How many bytes stand before the first at which it stops.
+fn until<F: Fn(u8) -> bool + Drop>(text: &[u8], stops: F) -> usize
+    requires { F.IsAlwaysCallable stops }
+    ensures { result ≤ length text.now }
+{
+    text.iter()
+        .position(|byte| stops(*byte))
+        .unwrap_or(text.len())
+}
+
 // Where the next word or sign begins, or the line ends.
 fn skip_blanks(text: &[u8], from: usize) -> usize
     requires { from ≤ length text.now }
     ensures { (from ≤ result) × (result ≤ length text.now) }
 {
-    let mut at = from;
-    let mut comment = false;
-    while at < text.len() {
-        match text[at] {
-            b'\n' | b'\r' => break,
-            b'#' => comment = true,
-            b' ' | b'\t' => {}
-            _ => {
-                if !comment {
-                    break;
-                }
-            }
-        }
-        at += 1;
+    let at = from + until(&text[from..], |byte| !is_blank(byte));
+    if text[at..].first() == Some(&b'#') {
+        at + until(&text[at..], ends_line)
+    } else {
+        at
     }
-    at
 }
 
 // Where the word that begins at `from` ends.
@@ -88,21 +87,18 @@ fn word_end(text: &[u8], from: usize) -> usize
     requires { from < length text.now }
     ensures { (from < result) × (result ≤ length text.now) }
 {
-    let mut at = from + 1;
-    while at < text.len() && is_letter(text[at]) {
-        at += 1;
-    }
-    at
+    let rest = from + 1;
+    rest + until(&text[rest..], |byte| !is_letter(byte))
 }
 
 fn word_kind(word: &[u8]) -> Kind {
     match word {
         b"if" => Kind::If,
         b"then" => Kind::Then,
-        b"same" => Kind::Same,
-        b"other" => Kind::Other,
-        b"cell" => Kind::Cell,
-        b"row" => Kind::Row,
+        b"same" => Kind::Relation(Relation::Same),
+        b"other" => Kind::Relation(Relation::Other),
+        b"cell" => Kind::Relation(Relation::Cell),
+        b"row" => Kind::Relation(Relation::Row),
         b"nothing" => Kind::Nothing,
         b"emp" => Kind::Emp,
         b"ls" => Kind::Ls,
@@ -158,6 +154,7 @@ fn token_at(text: &[u8], from: usize) -> Token
     }
 }
 
+// No iterator, since an error at the end of a text or a line tells of the token there.
 impl<'a> Scan<'a> {
     // The place at the byte `at`, or at the end of the text if it is not so long.
     pub fn new(text: &'a [u8], at: usize) -> Scan<'a>
@@ -195,7 +192,7 @@ impl<'a> Scan<'a> {
         ensures { Goes self.old self.new }
     {
         let mut next = *self;
-        while let Kind::Line = next.take().kind {
+        while next.take().kind == Kind::Line {
             *self = next;
         }
     }

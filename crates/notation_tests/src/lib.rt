@@ -11,7 +11,7 @@ mod tests {
     use std::test::Fail;
 
     // The only question of the text, if there is one without an error.
-    fn asked(heap: Global, text: &[u8]) -> Result<Option<Asked>, AllocError> {
+    fn asked(heap: Global, text: &[u8]) -> Result<Option<Asked<'_>>, AllocError> {
         let Ok(mut reader) = Reader::new(text) else {
             return Ok(None);
         };
@@ -239,11 +239,11 @@ mod tests {
         let Some(first) = asked(heap, text.as_bytes())? else {
             return Ok(false);
         };
-        let normal = normal_form(heap, text.as_bytes(), &first)?;
+        let normal = normal_form(heap, &first)?;
         let Some(again) = asked(heap, normal.as_bytes())? else {
             return Ok(false);
         };
-        let twice = normal_form(heap, normal.as_bytes(), &again)?;
+        let twice = normal_form(heap, &again)?;
         if normal.as_str() != twice.as_str() || first.question.names != again.question.names {
             return Ok(false);
         }

@@ -8,7 +8,7 @@ returns c =
     let pures = c.in_ok-pures.ensures.order in
     let atoms = c.in_ok-atoms.ensures.order in
     record {
-      same = c.atoms.ensures.same ∙ c.pures.ensures.same;
+      same = c.parts-2.ensures.same ∙ c.parts.ensures.same;
       order =
           claim_numbered pure_of atom_of _ _ pures.0 atoms.0
           (omega (arith, c.in_ok-pures.pures.ok.0, pures.1, c.as_slice.ensures.len, c.args.draft.now.few_pures))
