@@ -38,10 +38,7 @@ pub fn is_forkless(atoms: &[Atom], known: &Known) -> bool
             continue;
         }
         let start = known.find(atom.start().0);
-        if start == 0 {
-            return false;
-        }
-        if seen.has(start) {
+        if start == 0 || seen.has(start) {
             return false;
         }
         seen = seen.with(start);

@@ -56,9 +56,10 @@ impl Reach<'_> {
             let Atom::Row(x, y) = *atom else {
                 continue;
             };
-            if names.has(x.0) {
-                names = names.with(y.0);
+            if !names.has(x.0) {
+                continue;
             }
+            names = names.with(y.0);
         }
         names
     }

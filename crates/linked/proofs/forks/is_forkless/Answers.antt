@@ -13,6 +13,7 @@ use Rattle.linked.specs.Spare.{spare}
 use Rattle.linked.proofs.Begun.{begun_none, begun_skip, begun_more, begun_all, fork_nowhere, fork_two, code_out, code_empty}
 use Rattle.linked.proofs.FirstNumbers.{generic_holds, generic_settled}
 use Rattle.linked.proofs.forks.is_forkless.Goals as goal
+use Rattle.linked.proofs.forks.is_forkless.Goals.{then-start-eq0-via-then-start-eq0, then-start-eq0-via-else-start-eq0+then-has}
 
 below : (atoms : List Atom) (i : ℕ) → i < length atoms → AllByRecursion (AtomBelow 64) (map atom_of atoms) → AtomBelow 64 (atom_of (get_or atoms i spare))
 below atoms i h all =
@@ -38,22 +39,17 @@ find-start-requires c =
 -- from here on the atom goes out from the name that was found
 pub returns-then-start-eq0 : goal.returns-then-start-eq0
 returns-then-start-eq0 c =
+    let k = c.args.known.now in
+    let cs = map atom_of c.args.atoms.now in
+    let e = c.loop-atom.atom-index in
     let out =
-    code_out c.args.known.now c.args.atoms.now c.loop-atom.atom-index c.loop-atom-test.true c.start.result.0 c.find-start.result
+    code_out k c.args.atoms.now e c.loop-atom-test.true c.start.result.0 c.find-start.result
     c.if-not-is_live.ensures c.start.ensures c.find-start.ensures.stands in
     record {
-      exact = fork_nowhere c.args.known.now (map atom_of c.args.atoms.now) c.loop-atom.atom-index c.loop-atom.seen c.loop-atom.invariant c.find-start.result out c.if-start-eq0.true;
-      settled = λ e. absurd (both_ways false refl e);
-      generic = λ e. absurd (both_ways false refl e);
-    }
-
-pub returns-then-has : goal.returns-then-has
-returns-then-has c =
-    let out =
-    code_out c.args.known.now c.args.atoms.now c.loop-atom.atom-index c.loop-atom-test.true c.start.result.0 c.find-start.result
-    c.if-not-is_live.ensures c.start.ensures c.find-start.ensures.stands in
-    record {
-      exact = fork_two c.args.known.now (map atom_of c.args.atoms.now) c.loop-atom.atom-index c.loop-atom.seen c.loop-atom.invariant c.find-start.result out c.if-has.ensures;
+      exact = elim c.then-start-eq0.branch [
+        | then-start-eq0-via-then-start-eq0 w ↦ fork_nowhere k cs e c.loop-atom.seen c.loop-atom.invariant c.find-start.result out w.if-start-eq0.true
+        | then-start-eq0-via-else-start-eq0+then-has w ↦ fork_two k cs e c.loop-atom.seen c.loop-atom.invariant c.find-start.result out w.if-has.ensures
+      ];
       settled = λ e. absurd (both_ways false refl e);
       generic = λ e. absurd (both_ways false refl e);
     }
