@@ -23,6 +23,7 @@ fn apart_from(reach: &Reach, known: &Known, u: u8) -> bool
     (0..64u8).any(|x| reach.names.has(x) && known.other(x, u))
 }
 
+// That t is below 64 is asked of each, since linked asks it of a name: a type for such a number would have to stand in all atoms.
 impl<'a> Rest<'a> {
     // Is the place of t never one of the cells of the atom number e?
     pub fn outside(&self, e: usize, t: u8) -> bool
