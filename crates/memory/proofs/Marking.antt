@@ -1,11 +1,11 @@
 -- Memories as words, and cells that are marked.
 --
--- length_memory, memory_at: how many cells words are, and which; memory_words_of and words_memory: words and memories tell each other.
+-- length_memory: how many cells words are; memory_words_of and words_memory: words and memories tell each other.
 -- sound_rest: what is left of a sound memory is sound.
--- mark_out: marking a cell takes it out of the unmarked ones; unmarked_clear: with no marks all cells are left.
+-- mark_out: marking a cell takes it out of the unmarked ones; unmarked_clear: where all marks are 0, all cells are left.
 -- none-unmarked: with all cells marked nothing is left.
 -- step_absent, step_taken and step_out: the ways of taking the cell at a place.
-use Rattle.std.proofs.Common.{◌≡◌, ℕ, zero, suc, ◌+◌, ◌*◌, ◌/◌, ◌%◌, ◌<◌, false, true, T, eqb, List, [], ◌∷◌, length, get_or, set, replicate, sym, refl, ap, ◌∙◌, arith}
+use Rattle.std.proofs.Common.{◌≡◌, ℕ, zero, suc, ◌*◌, ◌/◌, ◌%◌, ◌<◌, false, true, T, eqb, List, [], ◌∷◌, length, get_or, set, replicate, sym, refl, ap, ◌∙◌, arith}
 use Rattle.std.proofs.lemmas.Bool.{both_ways, or_from, or_right, ne_eqb}
 use Rattle.claims.specs.Memory.{Cell, Memory, here, sound, Parts, none_p, left_p, right_p}
 use Rattle.memory.specs.Marks.{memory_words, memory_of, unmarked, rest_of}
@@ -19,17 +19,6 @@ length_memory (p ∷ q ∷ s) = omega (arith, length_memory s)
 -- no cell, where a default is asked for
 pub nowhere : Cell ℕ
 nowhere = record { place = 0; holds = 0 }
-
-pub memory_at :
-    (s : List ℕ) (i : ℕ) (d : Cell ℕ) → i < length s / 2 →
-    get_or (memory_of s) i d ≡ record { place = get_or s (2 * i) 0; holds = get_or s (2 * i + 1) 0 }
-memory_at [] i d h = absurd (omega arith)
-memory_at (p ∷ []) i d h = absurd (omega arith)
-memory_at (p ∷ q ∷ s) zero d h = refl
-memory_at (p ∷ q ∷ s) (suc i) d h =
-    let first : 2 * suc i ≡ suc (suc (2 * i)) = omega arith in
-    let second : 2 * suc i + 1 ≡ suc (suc (2 * i + 1)) = omega arith in
-    rw (second, first) (memory_at s i d (omega arith))
 
 pub memory_words_of : (m : Memory) → memory_of (memory_words m) ≡ m
 memory_words_of [] = refl

@@ -55,7 +55,8 @@ fn copied(words: &[u32]) -> [u32; MOST_CELLS]
     copy
 }
 
-// Does the claim hold? The marks are lent, and hold what they held when this is done.
+// Does the claim hold? The marks are lent, and hold what they held when this is done: with no heap here, they are
+// put back from an array.
 fn judge(claim: &Decoded, names: &[u32], memory: SoundMemory, marks: &mut [u32]) -> Result<(), Why>
     requires room { length marks.old ≡ length memory.words.now / 2 }
     requires few { length memory.words.now / 2 ≤ 16384 }

@@ -12,11 +12,9 @@ use claims::{Atom, Name, Place};
 pub fn at(names: &[u32], name: Name) -> Place
     ensures { result.0 ≡ at_Names names.now name.0 }
 {
-    let i = usize::from(name.0);
-    if i == 0 || i >= names.len() {
-        Place(0)
-    } else {
-        Place(names[i])
+    match usize::from(name.0) {
+        0 => Place(0),
+        i => Place(names.get(i).copied().unwrap_or(0)),
     }
 }
 
