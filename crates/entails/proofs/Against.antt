@@ -2,7 +2,7 @@
 --
 -- names_alike, front_against: as many names as there are mean the same as all that are written.
 -- told_length: how many cells are told; told_trial: what is told of a trial that is against it.
-use Rattle.std.proofs.Common.{◌≡◌, ℕ, zero, suc, ◌*◌, ◌≤◌, length, take, sym, refl, ap, subst₂, arith}
+use Rattle.std.proofs.Common.{◌≡◌, ℕ, zero, suc, ◌*◌, length, take, sym, refl, ap, subst₂, arith}
 use Rattle.std.proofs.lemmas.List.{get_or-take, length-take-le}
 use Rattle.claims.specs.Memory.{Names, Memory}
 use Rattle.memory.proofs.Alike.{Alike, alike_sym, says_alike}
