@@ -4,7 +4,7 @@ ghost use Rattle.claims.specs.Words.{Limits};
 
 use answers::{Answer, Instance, Lent, ask};
 use claims::{Question, read};
-use memory::{Checked, check as check_claim};
+use memory::check as check_claim;
 use notation::Reader;
 use std::alloc::{AllocError, Global};
 use std::process::Abort;
@@ -24,16 +24,13 @@ enum Outcome {
 // Does the claim hold of the instance, as the checking call finds? The claim's words have the number of names in front.
 fn holds(claim: &[u32], instance: &Instance) -> Option<bool> {
     let mut marks = [0; 128];
-    match check_claim(
+    let checked = check_claim(
         claim,
         instance.names.as_slice(),
         instance.memory.as_slice(),
         &mut marks,
-    ) {
-        Checked::Holds => Some(true),
-        Checked::Fails(_) => Some(false),
-        _ => None,
-    }
+    );
+    checked.ok().map(|verdict| verdict.is_ok())
 }
 
 // What the checking call finds of the two claims of a question whose words these are.

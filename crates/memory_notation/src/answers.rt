@@ -4,7 +4,7 @@ ghost use Rattle.memory_notation.specs.Answering.{Answered};
 
 use crate::cases::Case;
 use crate::sentences::sentence;
-use memory::{Checked, check};
+use memory::check;
 use std::alloc::{AllocError, Global};
 use std::fmt;
 
@@ -39,8 +39,8 @@ pub fn judge(heap: Global, case: &Case) -> Result<Answer, AllocError>
         work.as_mut_slice(),
     );
     match checked {
-        Checked::Holds => Ok(Answer::Holds),
-        Checked::Fails(why) => Ok(Answer::Fails(sentence(heap, case, why)?)),
-        _ => Ok(Answer::Refused),
+        Ok(Ok(())) => Ok(Answer::Holds),
+        Ok(Err(why)) => Ok(Answer::Fails(sentence(heap, case, why)?)),
+        Err(_) => Ok(Answer::Refused),
     }
 }
