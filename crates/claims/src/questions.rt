@@ -15,7 +15,8 @@ pub struct Claim {
     pub atoms: Vec<Atom>,
 }
 
-// Does the first claim say the second (entailment)? The names are below `names`.
+// Does the first claim say the second (entailment)? The names are below `names`. That it is within the limits is asked for
+// where words or knowledge are made of it, and not by the type: a question that is only printed may have any.
 #[derive(Drop)]
 pub struct Question {
     pub names: u8,

@@ -37,7 +37,7 @@ impl Findings<'_> {
         write!(out, "# must be: {word} {left} {right}\n")
     }
 
-    // The names that are the same as another.
+    // The names that are the same as another. Here and below names are gone through by number, since what is known goes by it.
     fn tell_same(&self, out: &mut String) -> Result<(), AllocError> {
         for x in 1..self.asked.question.names {
             let stands = self.known.find(x);

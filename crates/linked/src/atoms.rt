@@ -8,6 +8,7 @@ ghost use Rattle.linked.specs.Spare.{spare};
 
 use claims::{Atom, Name};
 
+// Made of a slice whose atoms have names below 64; a slice with this fact would be made at each call, from a claim's limits.
 // An array with a count, since a vector of fixed capacity is not `Copy`, and parts of questions are handed on by value.
 #[derive(Clone, Copy)]
 pub struct Live {

@@ -51,6 +51,7 @@ impl View<'_> {
         ensures no_more { NoMore self.now.known.now result }
     {
         let mut more = *self.known;
+        // a look is at an atom's number, not at the atom alone
         for e in 0..self.live.count {
             if !self.is_worth_a_look(e) {
                 continue;

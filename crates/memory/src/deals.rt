@@ -54,7 +54,8 @@ impl<'a> Dealing<'a> {
     }
 }
 
-// Does the claim with these parts hold? The marks are lent, a word for each cell, and hold any words afterwards.
+// Does the claim with these parts hold? The marks are lent, a word for each cell, and hold any words afterwards. How many they
+// are is asked for where they come in, here and where a dealing begins; from there on a type has it.
 pub fn holds(
     pures: &[Pure],
     atoms: &[Atom],
@@ -70,6 +71,7 @@ pub fn holds(
     }
     let mut dealing = Dealing::begin(memory, marks);
     dealing.deal(atoms, names)?;
+    // an answer turned round: `map_or` would say it backwards
     match dealing.left_over() {
         Some(j) => Err(Why::LeftOver(j)),
         None => Ok(()),

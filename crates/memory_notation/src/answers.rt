@@ -8,6 +8,7 @@ use memory::check;
 use std::alloc::{AllocError, Global};
 use std::fmt;
 
+// Three answers for people, each with words of its own.
 #[derive(Drop)]
 pub enum Answer {
     Holds,

@@ -14,7 +14,7 @@ pub enum Side {
     Second,
 }
 
-// A name in the text.
+// A name in the text. No `Option` of a span: nowhere is a name too, which `None` would not say.
 #[derive(Clone, Copy)]
 pub enum Mention {
     Nowhere,
@@ -83,18 +83,29 @@ impl Draft {
     }
 
     fn add_pure<'a>(&mut self, pure: DraftPure, at: usize) -> Result<(), Stop<Problem<'a>>> {
-        if self.pures.len() >= MOST_PURES as usize {
-            return Err(Stop::at(at, Problem::ManyPures));
-        }
-        self.pures.push(pure)?;
-        Ok(())
+        let too_many = Stop::at(at, Problem::ManyPures);
+        put(&mut self.pures, pure, MOST_PURES, too_many)
     }
 
     fn add_atom<'a>(&mut self, atom: DraftAtom, at: usize) -> Result<(), Stop<Problem<'a>>> {
-        if self.atoms.len() >= MOST_ATOMS as usize {
-            return Err(Stop::at(at, Problem::ManyAtoms));
-        }
-        self.atoms.push(atom)?;
-        Ok(())
+        let too_many = Stop::at(at, Problem::ManyAtoms);
+        put(&mut self.atoms, atom, MOST_ATOMS, too_many)
     }
+}
+
+// One part more, unless there are as many as there may be.
+fn put<'a, T: Drop>(
+    parts: &mut Vec<T>,
+    part: T,
+    most: u32,
+    too_many: Stop<Problem<'a>>,
+) -> Result<(), Stop<Problem<'a>>>
+    requires { vec_len parts.old ≤ most }
+    ensures { vec_len parts.new ≤ most }
+{
+    if parts.len() >= most as usize {
+        return Err(too_many);
+    }
+    parts.push(part)?;
+    Ok(())
 }

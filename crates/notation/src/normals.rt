@@ -29,10 +29,8 @@ impl<'a> Asked<'a> {
         if name.0 == 0 {
             return "nowhere";
         }
-        match self.names.get(usize::from(name.0)) {
-            Some(span) => from_utf8(span.of(self.text)).unwrap_or("?"),
-            None => "?",
-        }
+        let span = self.names.get(usize::from(name.0));
+        span.map_or("?", |span| from_utf8(span.of(self.text)).unwrap_or("?"))
     }
 
     // Writes the claim behind the word that begins it.
