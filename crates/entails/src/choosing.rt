@@ -1,4 +1,5 @@
-// Choosing two names to go on with: once as the same, and once as other.
+// Choosing two names to go on with: once as the same, and once as other. Of the question only the number of names is needed,
+// so that it is asked to be at most 64 here, and not the question handed on.
 ghost use Rattle.std.specs.Prelude.{◌≡◌, ◌<◌, ◌≤◌, true, IfSome};
 ghost use Rattle.linked.specs.Knowing.{undecided};
 ghost use Rattle.entails.specs.Searching.{Chosen, IsOpen, OpenWith};

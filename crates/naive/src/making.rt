@@ -9,6 +9,9 @@ use crate::parts::{Atom, AtomKind, Claim, Pure, PureKind, Question};
 use crate::random::Random;
 use std::alloc::{AllocError, Global};
 
+// Three of these ask that there are two to six names: with a struct of the random numbers and the names each call of
+// `below` would first have to take it apart.
+
 // Same or other, of two different names.
 fn some_pure(random: &mut Random, names: u32) -> Pure
     requires { (2 ≤ names) × (names ≤ 6) }

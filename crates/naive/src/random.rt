@@ -2,6 +2,7 @@
 // questions than those that `compare` counts.
 ghost use Rattle.std.specs.Prelude.{◌<◌};
 
+// That n isn't 0 is asked for at each call, where it is mostly a numeral; a type that says so would be made there all the same.
 #[derive(Drop)]
 pub struct Random {
     state: u64,
