@@ -1,28 +1,9 @@
 -- What reading promises.
-use Rattle.std.specs.Prelude.{◌≡◌, ℕ, Bool, true, false, List, ◌++◌, length, take, Some, None, Option, ◌≢◌}
-use Rattle.std.specs.List.{flat_map, AllByRecursion}
+use Rattle.std.specs.Prelude.{◌≡◌, ℕ, List, ◌++◌, length, Some, None, Option}
 use Rattle.claims.specs.Claims as claims
-use Rattle.claims.specs.Words.{pure_words, atom_words, claim_words, PureBelow, AtomBelow, Fits, Reads, OneQuestion}
-use Rattle.claims.specs.Meaning.{pure_of, atom_of}
-use Rattle.claims.specs.declared.parts.Pure.{Pure}
-use Rattle.claims.specs.declared.parts.Atom.{Atom}
+use Rattle.claims.specs.Words.{claim_words, Fits, Reads, OneQuestion}
 use Rattle.claims.specs.declared.shapes.Shape.{Shape}
 use Rattle.claims.specs.declared.layouts.Layout.{Layout}
-
--- the words s begin with a same or other over n names, which it is; or with none
-abbrev pub PureRead : List ℕ → ℕ → Option Pure → Type 0
-PureRead s n (Some p) = (take 3 s ≡ pure_words (pure_of p)) × PureBelow n (pure_of p)
-PureRead s n None = (p : claims.Pure) → PureBelow n p → take 3 s ≢ pure_words p
-
--- the words s begin with a cell or row over n names, which it is; or with none
-abbrev pub AtomRead : List ℕ → ℕ → Option Atom → Type 0
-AtomRead s n (Some a) = (take 3 s ≡ atom_words (atom_of a)) × AtomBelow n (atom_of a)
-AtomRead s n None = (a : claims.Atom) → AtomBelow n a → take 3 s ≢ atom_words a
-
--- the words s are just the words of such parts, one after the other; or of none such
-abbrev pub AllRead : {A : Type 0} → (A → List ℕ) → (A → Type 0) → List ℕ → Bool → Type 0
-AllRead {A} f P s true = (xs : List A) × (flat_map f xs ≡ s) × AllByRecursion P xs
-AllRead {A} f P s false = (xs : List A) → flat_map f xs ≡ s → AllByRecursion P xs → ⊥
 
 -- how many parts of both kinds a claim has
 pub record HasShape (c : claims.Claim) (l : Shape) : Type 0 where

@@ -1,7 +1,6 @@
-// Reading a claim's words as values: its same and other, its cells and rows.
+// Reading a claim's words, and a question's, as values: the same and other, the cells and rows.
 //
-// Where `read_claim` tells how many parts the claim has, `decode` hands the parts over, for code that goes
-// through them more than once.
+// `layouts` tells of what is read here how many parts there are and where they lie.
 ghost use Rattle.std.specs.Prelude.{◌+◌, ◌*◌, ◌≤◌, length, IfSome};
 ghost use Rattle.claims.specs.Decoding.{PartsRead, ClaimDecoded, QuestionDecoded};
 ghost use Rattle.claims.specs.Meaning.{pure_of, atom_of};
@@ -39,6 +38,7 @@ pub fn decode(words: &[u32], names: u8) -> Option<Decoded>
     ensures decodes { ClaimDecoded words.now names result }
     ensures room { IfSome result (λ d. 2 + 3 * (d.shape.pures + d.shape.atoms) ≤ length words.now) }
 {
+    // by a pattern, here and below: what the rest is shows by itself, where a method would have to tell
     let [pures, atoms, parts @ ..] = words else {
         return None;
     };

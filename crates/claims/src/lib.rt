@@ -1,8 +1,8 @@
 // Claims about linked cells: what they are made of, and their words.
 //
 // A claim (a symbolic heap) says which names stand for the same place, and which cells and rows of cells
-// a memory consists of. A question asks whether one claim says another. `read` takes words apart into a
-// question, and `Question::words` puts one together.
+// a memory consists of. A question asks whether one claim says another. `decode_question` takes words apart into
+// a question, `read` tells how they are laid out, and `Question::words` puts a question's words together.
 #![tactic(auto)]
 
 pub mod decoded;

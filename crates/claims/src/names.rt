@@ -13,6 +13,7 @@ impl Name {
     pub fn below(number: u32, names: u8) -> Option<Name>
         ensures { SomeIff (option_map (λ x. x.0) result) (number < names) number }
     {
+        // a branch and no `then_some`, since the cast is sound only behind the comparison
         if number < u32::from(names) {
             Some(Name(number as u8))
         } else {

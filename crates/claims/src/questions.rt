@@ -9,7 +9,7 @@ use crate::parts::{Atom, Pure};
 use std::alloc::{AllocError, Global};
 
 // What is said of names, and of cells and rows (a symbolic heap).
-#[derive(Drop)]
+#[derive(Drop, PartialEq)]
 pub struct Claim {
     pub pures: Vec<Pure>,
     pub atoms: Vec<Atom>,

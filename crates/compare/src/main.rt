@@ -2,6 +2,7 @@
 // out, and ends with an error if an answer is not what it must be.
 #![tactic(auto)]
 
+use entails::deciding::LENT;
 use entails::{Decided, decide};
 use naive::worked::Expected;
 use naive::{Answer, Random, Tally, WORKED, Worked, make, read, round};
@@ -26,7 +27,7 @@ impl Room {
     fn new(heap: Global) -> Result<Room, AllocError> {
         Ok(Room {
             out: vec![in heap; 0; 320]?,
-            work: vec![in heap; 0; 65536]?,
+            work: vec![in heap; 0; LENT]?,
         })
     }
 
@@ -54,11 +55,10 @@ fn ask_known(rt: &HostRuntime, room: &mut Room, worked: &Worked) -> anyhow::Resu
 
 // All questions whose answers are known: true, if each comes out.
 fn ask_worked(rt: &HostRuntime, room: &mut Room) -> anyhow::Result<bool> {
-    let right = WORKED
-        .iter()
-        .try_fold(true, |right, worked| -> anyhow::Result<bool> {
-            Ok(ask_known(rt, room, worked)? && right)
-        })?;
+    let mut right = true;
+    for worked in &WORKED {
+        right &= ask_known(rt, room, worked)?;
+    }
     let words = round(rt.alloc())?;
     let round = Worked {
         says: ROUND,

@@ -9,6 +9,7 @@ use linked::known::Known;
 use linked::settle::{Outcome, settle_first};
 use notation::Asked;
 use std::alloc::{AllocError, Global};
+use std::fmt;
 
 // What is known of the names of a question's first claim.
 #[derive(Drop)]
@@ -28,46 +29,59 @@ impl Findings<'_> {
     }
 
     // One finding on a line of its own, if the claim doesn't say it.
-    fn tell(&self, out: &mut String, word: &str, x: u8, y: u8) -> Result<(), AllocError> {
+    fn tell<W: fmt::Write>(
+        &self,
+        f: &mut fmt::Formatter<W>,
+        word: &str,
+        x: u8,
+        y: u8,
+    ) -> fmt::Result {
         let (x, y) = (Name(x), Name(y));
         if self.is_given(x, y) {
             return Ok(());
         }
         let (left, right) = (self.asked.spelled(x), self.asked.spelled(y));
-        write!(out, "# must be: {word} {left} {right}\n")
+        write!(f, "# must be: {word} {left} {right}\n")
     }
 
     // The names that are the same as another. Here and below names are gone through by number, since what is known goes by it.
-    fn tell_same(&self, out: &mut String) -> Result<(), AllocError> {
+    fn tell_same<W: fmt::Write>(&self, f: &mut fmt::Formatter<W>) -> fmt::Result {
         for x in 1..self.asked.question.names {
             let stands = self.known.find(x);
             if stands != x {
-                self.tell(out, "same", stands, x)?;
+                self.tell(f, "same", stands, x)?;
             }
         }
         Ok(())
     }
 
     // The names behind x that are other than it.
-    fn tell_other_than(&self, out: &mut String, x: u8) -> Result<(), AllocError>
+    fn tell_other_than<W: fmt::Write>(&self, f: &mut fmt::Formatter<W>, x: u8) -> fmt::Result
         requires { x < 64 }
     {
         for y in x + 1..self.asked.question.names {
             if self.known.find(y) == y && self.known.other(x, y) {
-                self.tell(out, "other", x, y)?;
+                self.tell(f, "other", x, y)?;
             }
         }
         Ok(())
     }
 
     // The names that are other, each told by the one that stands for it.
-    fn tell_other(&self, out: &mut String) -> Result<(), AllocError> {
+    fn tell_other<W: fmt::Write>(&self, f: &mut fmt::Formatter<W>) -> fmt::Result {
         for x in 0..self.asked.question.names {
             if self.known.find(x) == x {
-                self.tell_other_than(out, x)?;
+                self.tell_other_than(f, x)?;
             }
         }
         Ok(())
+    }
+}
+
+impl fmt::Display for Findings<'_> {
+    fn fmt<W: fmt::Write>(&self, f: &mut fmt::Formatter<W>) -> fmt::Result {
+        self.tell_same(f)?;
+        self.tell_other(f)
     }
 }
 
@@ -75,14 +89,11 @@ impl Findings<'_> {
 pub fn found(heap: Global, asked: &Asked) -> Result<String, AllocError>
     requires { Limits (question_of asked.now.question) }
 {
-    let mut out = String::new(heap);
     match settle_first(&asked.question) {
-        Outcome::Never => out.push_str("# the first claim can't be\n")?,
+        Outcome::Never => String::from_str(heap, "# the first claim can't be\n"),
         Outcome::Forks(known) | Outcome::Holds(known) => {
             let findings = Findings { asked, known };
-            findings.tell_same(&mut out)?;
-            findings.tell_other(&mut out)?;
+            format!(in heap; "{findings}")
         }
     }
-    Ok(out)
 }

@@ -8,7 +8,8 @@ ghost use Rattle.linked.specs.Spare.{spare};
 
 use claims::{Atom, Name};
 
-// Made of a slice whose atoms have names below 64; a slice with this fact would be made at each call, from a claim's limits.
+// Whoever makes one shows that the slice's names are below 64, as `assume` and `learn` ask it of *same* and *other*. A type for
+// such a slice would be made at each call, by the same fact.
 // An array with a count, since a vector of fixed capacity is not `Copy`, and parts of questions are handed on by value.
 #[derive(Clone, Copy)]
 pub struct Live {

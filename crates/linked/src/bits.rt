@@ -35,7 +35,8 @@ impl NameMask {
     }
 }
 
-// As two words of 32 bits, for what is known other: those are set and tested as they are, and not by way of a mask.
+// As two words of 32 bits, for what is known other. Their bits are set and tested as they are, and not by way of a mask: a rule
+// here (docs/DECISIONS.md, Forms).
 #[derive(Clone, Copy)]
 pub struct NameSet {
     low: u32,

@@ -1,4 +1,5 @@
-// Othernesses, when two classes of names become one.
+// Othernesses, when two classes of names become one: three steps on the array as it stands in what is known. A struct of its own
+// would be taken out of there and put back for each.
 ghost use Rattle.std.specs.Prelude.{◌≡◌, ℕ, ◌<◌, length};
 ghost use Rattle.linked.specs.Stands.{Added, Carried, Columned};
 

@@ -7,8 +7,9 @@ use claims::Name;
 
 // Known same: each name's entry is one that it is the same as, and the last on the way up stands for the class.
 // Known other: for each name the set of those that it is other than.
-// Names are numbers here, and each use asks that they are below 64: a claim's `Name` has no limit of its own, so a type with
-// the limit would be made by the same fact at each of these uses.
+// An array with a loop to the one that stands for a class, and bits of two words: a rule here (docs/DECISIONS.md, Forms).
+// Names are numbers here, the indices of both arrays, and each use asks that they are below 64: a claim's `Name` has no limit of
+// its own, so a type with the limit would be made by the same fact at each of these uses.
 #[derive(Clone, Copy)]
 pub struct Known {
     pub stands: [u8; 64],

@@ -31,7 +31,7 @@ fn is_empty(atom: Atom) -> bool
 }
 
 impl Live {
-    // The atom number j.
+    // The atom number j. That there is one is asked for here and where a look is at it, as by an index of any list.
     pub fn get(&self, j: usize) -> Atom
         requires { j < self.now.count }
         ensures is { (d : ClaimAtom) → slice_index_or (atoms_of self.now) j d ≡ atom_of result }

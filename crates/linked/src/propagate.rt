@@ -20,6 +20,7 @@ pub fn propagate(atoms: &[Atom], mut known: Known) -> Option<Known>
     ensures no_more { NoMore known result }
 {
     let mut before = 65;
+    // a loop that begins again till nothing new comes: a rule here (docs/DECISIONS.md, What must be the same)
     'again: loop {
         let live = Live::of(atoms, &known);
         // Each turn but the last finds a row to be empty.

@@ -1,4 +1,5 @@
-// What comes next from a name, to be taken apart by `let .. else`: over an atom, or nothing.
+// What comes next from a name: over an atom, or nothing. An enum of its own and no Option, by a rule here (docs/DECISIONS.md,
+// Forms).
 
 #[derive(Clone, Copy)]
 pub enum Next {

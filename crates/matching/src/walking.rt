@@ -45,6 +45,7 @@ impl<'a> Rest<'a> {
         ensures { ComesNext self.now s t result }
     {
         let one = self.ways(s) < 2;
+        // over the numbers, by which an atom is used and asked about
         (0..self.own)
             .find(|e| self.begins(*e, s) && (one || self.leads(*e, t)) && self.outside(*e, t))
             .map_or(Next::Stuck, Next::Over)

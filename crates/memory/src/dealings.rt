@@ -9,7 +9,7 @@ use claims::Place;
 #[derive(Drop)]
 pub struct Dealing<'a> {
     pub memory: SoundMemory<'a>,
-    marks: &'a mut [u32],
+    pub marks: &'a mut [u32],
     ghost room: { length marks.now ≡ length memory.words.now / 2 },
 }
 

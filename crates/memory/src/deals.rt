@@ -55,7 +55,7 @@ impl<'a> Dealing<'a> {
 }
 
 // Does the claim with these parts hold? The marks are lent, a word for each cell, and hold any words afterwards. How many they
-// are is asked for where they come in, here and where a dealing begins; from there on a type has it.
+// are is asked for wherever they are lent on; a dealing has it by its type.
 pub fn holds(
     pures: &[Pure],
     atoms: &[Atom],
@@ -71,9 +71,8 @@ pub fn holds(
     }
     let mut dealing = Dealing::begin(memory, marks);
     dealing.deal(atoms, names)?;
-    // an answer turned round: `map_or` would say it backwards
-    match dealing.left_over() {
-        Some(j) => Err(Why::LeftOver(j)),
-        None => Ok(()),
+    if let Some(j) = dealing.left_over() {
+        return Err(Why::LeftOver(j));
     }
+    Ok(())
 }

@@ -25,6 +25,8 @@ pub fn all_hold(pures: &[Pure], names: &[u32]) -> bool {
     pures.iter().all(|pure| is_so(pure, names))
 }
 
+// Names and cells go through these three as they are: a struct of the two would be made in `holds` alone.
+
 // Is the share just what the cell or row says?
 fn fits(atom: &Atom, names: &[u32], cells: &Cells, share: u32) -> bool {
     let from = place_of(names, atom.left);

@@ -4,7 +4,7 @@ use crate::telling::refutes;
 use crate::trying::try_all;
 use std::fmt;
 
-// What somebody else answered to a question: three words that are printed, where an `Option` of a `Result` would have none.
+// What somebody else answered to a question: three answers, each printed in its own words.
 #[derive(Clone, Copy, PartialEq, Eq)]
 pub enum Answer {
     Follows,

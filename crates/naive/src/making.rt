@@ -9,23 +9,35 @@ use crate::parts::{Atom, AtomKind, Claim, Pure, PureKind, Question};
 use crate::random::Random;
 use std::alloc::{AllocError, Global};
 
-// Three of these ask that there are two to six names: with a struct of the random numbers and the names each call of
-// `below` would first have to take it apart.
+// How many names a question has, with nowhere.
+#[derive(Clone, Copy)]
+struct Names {
+    count: u32,
+    ghost some: { 2 ≤ count },
+    ghost few: { count ≤ 6 },
+}
+
+impl Names {
+    // One of them.
+    fn any(self, random: &mut Random) -> u32
+        ensures { result < self.count }
+    {
+        random.below(self.count)
+    }
+}
 
 // Same or other, of two different names.
-fn some_pure(random: &mut Random, names: u32) -> Pure
-    requires { (2 ≤ names) × (names ≤ 6) }
-{
+fn some_pure(random: &mut Random, names: Names) -> Pure {
     let kind = if random.once_in(4) {
         PureKind::Same
     } else {
         PureKind::Other
     };
-    let left = random.below(names);
+    let left = names.any(random);
     Pure {
         kind,
         left,
-        right: (left + 1 + random.below(names - 1)) % names,
+        right: (left + 1 + random.below(names.count - 1)) % names.count,
     }
 }
 
@@ -39,21 +51,19 @@ fn some_kind(random: &mut Random) -> AtomKind {
 
 // Up to five cells and rows. They go round the names from a random one on, each leading to where the next begins, but
 // now and then one begins or leads anywhere. Nowhere is left out of the round.
-fn some_atoms(heap: Global, random: &mut Random, names: u32) -> Result<Vec<Atom>, AllocError>
-    requires { (2 ≤ names) × (names ≤ 6) }
-{
-    let mut start = 1 + random.below(names - 1);
-    let count = random.below(names).max(random.below(names));
+fn some_atoms(heap: Global, random: &mut Random, names: Names) -> Result<Vec<Atom>, AllocError> {
+    let mut start = 1 + random.below(names.count - 1);
+    let count = names.any(random).max(names.any(random));
     let mut atoms = Vec::new(heap);
     for _ in 0..count {
-        let next = 1 + start % (names - 1);
+        let next = 1 + start % (names.count - 1);
         let left = if random.once_in(8) {
-            random.below(names)
+            names.any(random)
         } else {
             start
         };
         let right = if random.once_in(2) {
-            random.below(names)
+            names.any(random)
         } else {
             next
         };
@@ -67,9 +77,7 @@ fn some_atoms(heap: Global, random: &mut Random, names: u32) -> Result<Vec<Atom>
     Ok(atoms)
 }
 
-fn some_claim(heap: Global, random: &mut Random, names: u32) -> Result<Claim, AllocError>
-    requires { (2 ≤ names) × (names ≤ 6) }
-{
+fn some_claim(heap: Global, random: &mut Random, names: Names) -> Result<Claim, AllocError> {
     let mut pures = Vec::new(heap);
     for _ in 0..random.below(3) {
         pures.push(some_pure(random, names))?;
@@ -110,9 +118,7 @@ fn shuffle(random: &mut Random, atoms: &mut [Atom]) {
 }
 
 // Changes one cell or row: its kind, where it begins or where it ends.
-fn change(random: &mut Random, names: u32, atoms: &mut [Atom])
-    requires { 0 < names }
-{
+fn change(random: &mut Random, names: Names, atoms: &mut [Atom]) {
     if atoms.is_empty() {
         return;
     }
@@ -120,8 +126,8 @@ fn change(random: &mut Random, names: u32, atoms: &mut [Atom])
     let atom = &mut atoms[i];
     match random.below(4) {
         0 => atom.kind = some_kind(random),
-        1 => atom.left = random.below(names),
-        2 => atom.right = random.below(names),
+        1 => atom.left = names.any(random),
+        2 => atom.right = names.any(random),
         _ => atom.kind = AtomKind::Row,
     }
 }
@@ -180,9 +186,7 @@ fn rename_same(random: &mut Random, pures: &[Pure], atoms: &mut [Atom]) {
 }
 
 // The claim with this and that done to it.
-fn variant(random: &mut Random, names: u32, claim: &Claim) -> Result<Claim, AllocError>
-    requires { 0 < names }
-{
+fn variant(random: &mut Random, names: Names, claim: &Claim) -> Result<Claim, AllocError> {
     let mut atoms = claim.atoms.clone()?;
     for _ in 0..random.below(4) {
         fold(random, &mut atoms);
@@ -192,7 +196,7 @@ fn variant(random: &mut Random, names: u32, claim: &Claim) -> Result<Claim, Allo
         change(random, names, atoms.as_mut_slice());
     }
     if random.once_in(8) {
-        let name = random.below(names);
+        let name = names.any(random);
         atoms.push(Atom {
             kind: AtomKind::Row,
             left: name,
@@ -210,7 +214,8 @@ fn variant(random: &mut Random, names: u32, claim: &Claim) -> Result<Claim, Allo
 pub fn make(heap: Global, random: &mut Random) -> Result<Question, AllocError>
     ensures { IfOk result (λ q. q.names ≤ 6) }
 {
-    let names = 2 + random.below(5).max(random.below(5));
+    let count = 2 + random.below(5).max(random.below(5));
+    let names = Names { count };
     let first = some_claim(heap, random, names)?;
     let second = if random.once_in(8) {
         some_claim(heap, random, names)?
@@ -218,7 +223,7 @@ pub fn make(heap: Global, random: &mut Random) -> Result<Question, AllocError>
         variant(random, names, &first)?
     };
     Ok(Question {
-        names,
+        names: count,
         first,
         second,
     })

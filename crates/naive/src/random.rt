@@ -2,7 +2,6 @@
 // questions than those that `compare` counts.
 ghost use Rattle.std.specs.Prelude.{◌<◌};
 
-// That n isn't 0 is asked for at each call, where it is mostly a numeral; a type that says so would be made there all the same.
 #[derive(Drop)]
 pub struct Random {
     state: u64,
@@ -23,7 +22,8 @@ impl Random {
         x.wrapping_mul(0x2545_F491_4F6C_DD1D)
     }
 
-    // A number below n.
+    // A number below n. That n isn't 0 is asked for here and below: mostly it is a numeral, and a type that says so would be made
+    // of it at each call all the same.
     pub fn below(&mut self, n: u32) -> u32
         requires { 0 < n }
         ensures { result < n }

@@ -2,7 +2,7 @@
 use crate::judging::Answer;
 use std::alloc::{AllocError, Global};
 
-// What must come out.
+// What must come out: one answer, or any of a kind, for which `None` would be no word.
 #[derive(Clone, Copy)]
 pub enum Expected {
     Just(Answer),

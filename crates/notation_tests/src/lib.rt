@@ -4,7 +4,6 @@
 
 #[cfg(test)]
 mod tests {
-    use claims::Claim;
     use notation::{Asked, Reader, normal_form};
     use std::alloc::{AllocError, Global};
     use std::process::Abort;
@@ -230,10 +229,6 @@ mod tests {
         )
     }
 
-    fn same_claim(a: &Claim, b: &Claim) -> bool {
-        a.pures == b.pures && a.atoms == b.atoms
-    }
-
     // The normal form of the text's question reads as the same question, and has the same normal form.
     fn round(heap: Global, text: &str) -> Result<bool, AllocError> {
         let Some(first) = asked(heap, text.as_bytes())? else {
@@ -248,8 +243,8 @@ mod tests {
             return Ok(false);
         }
         Ok(
-            same_claim(&first.question.first, &again.question.first)
-                && same_claim(&first.question.second, &again.question.second),
+            first.question.first == again.question.first
+                && first.question.second == again.question.second,
         )
     }
 

@@ -26,9 +26,9 @@ returns-in-Some-left_over c =
     let (within, unmarked) = c.in-Some-left_over.ensures in
     fails_left c.args.names.now c.args.memory.words.now c.args.pures.now c.args.atoms.now c.args.memory.sound c.in_default.ensures d.marks.now (room_is c.args.memory d same) dealt c.in-Some-left_over.j within unmarked
 
-pub returns-in-None : goal.returns-in-None
-returns-in-None c =
+pub returns : goal.returns
+returns c =
     let d = c.deal.new.self in
     let same = c.deal.ensures.memory ∙ c.begin-dealing.ensures.memory in
     let dealt = rw (c.begin-dealing.ensures.all, rest_is c.args.memory d same) at c.in_ok-deal.ensures.dealt in
-    says_so c.args.names.now c.args.memory.words.now c.args.pures.now c.args.atoms.now c.args.memory.sound c.in_default.ensures d.marks.now (room_is c.args.memory d same) dealt c.in-None.ensures
+    says_so c.args.names.now c.args.memory.words.now c.args.pures.now c.args.atoms.now c.args.memory.sound c.in_default.ensures d.marks.now (room_is c.args.memory d same) dealt c.in_default-left_over.ensures
