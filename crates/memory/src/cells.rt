@@ -51,6 +51,7 @@ pub fn is_sound(memory: &[u32]) -> bool
     ensures { result ≡ sound (memory_of memory.now) }
 {
     let (mut cells, _) = memory.as_chunks::<2>();
+    // each cell beside those behind it, which a chain over the cells alone does not have
     'cells: while let [[place, _], others @ ..] = cells {
         if *place == 0 || first_at(others, *place).is_some() {
             return false;
