@@ -14,7 +14,7 @@ impl Recent {
     pub fn note(&mut self, x: u8, y: u8) {
         let pair = Some((x, y));
         let last = self.pairs.iter().position(|old| *old == pair).unwrap_or(7);
-        self.pairs[0..last + 1].rotate_right(1);
+        self.pairs[..=last].rotate_right(1);
         self.pairs[0] = pair;
     }
 }
