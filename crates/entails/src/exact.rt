@@ -18,7 +18,7 @@ impl Goal {
         ensures tried { IfOk result (λ _. StretchesTried self.now names.now row (self.now.names + 1)) }
         ensures against { IfErr result (TrialAgainst self.now) }
     {
-        for through in 1..u32::from(self.names) + 1 {
+        for through in 1..=u32::from(self.names) {
             let stretch = Some(Stretch { row, through });
             self.try_one(
                 Trial {

@@ -46,12 +46,11 @@ impl Goal {
     fn is_against(&self, told: &Told, marks: &mut [u32; 128]) -> bool
         ensures { JudgedAgainst self.now told.now.names (told_memory told.now) result }
     {
-        let Some(memory) = SoundMemory::of(told.memory()) else {
-            return false;
-        };
         let marks = &mut marks[0..told.count];
-        is_so(&self.first, &told.names, memory, marks)
-            && !is_so(&self.second, &told.names, memory, marks)
+        SoundMemory::of(told.memory()).is_some_and(|memory| {
+            is_so(&self.first, &told.names, memory, marks)
+                && !is_so(&self.second, &told.names, memory, marks)
+        })
     }
 
     // Tries the generic memory, or the one in which a row of the first claim goes through a place.
