@@ -10,6 +10,7 @@ use crate::told::Told;
 // How many words have to be lent.
 pub const LENT: usize = 65536;
 
+// An enum with a number, which the programs take apart (docs/DECISIONS.md, Forms).
 #[derive(Clone, Copy, Debug, PartialEq, Eq)]
 pub enum Decided {
     // The second claim holds of all names and memories of which the first does.

@@ -5,7 +5,6 @@ ghost use Rattle.entails.specs.Trying.{StretchesTried, Exactly};
 
 use crate::goals::Goal;
 use crate::stretches::{Stretch, Trial};
-use crate::telling::places;
 use linked::known::Known;
 
 impl Goal {
@@ -19,8 +18,15 @@ impl Goal {
         ensures tried { IfOk result (λ _. StretchesTried self.now names.now row (self.now.names + 1)) }
         ensures against { IfErr result (TrialAgainst self.now) }
     {
-        for through in 1..u32::from(self.names) + 1 {
-            self.try_one(names, Some(Stretch { row, through }), marks)?;
+        for through in 1..=u32::from(self.names) {
+            let stretch = Some(Stretch { row, through });
+            self.try_one(
+                Trial {
+                    names: *names,
+                    stretch,
+                },
+                marks,
+            )?;
         }
         Ok(())
     }
@@ -30,8 +36,14 @@ impl Goal {
     pub fn try_all(&self, known: &Known, marks: &mut [u32; 128]) -> Result<(), Trial>
         ensures { Exactly self.now known.now result }
     {
-        let names = places(known, self.names);
-        self.try_one(&names, None, marks)?;
+        let names = self.places(known);
+        self.try_one(
+            Trial {
+                names,
+                stretch: None,
+            },
+            marks,
+        )?;
         for row in 0..self.first.shape.atoms {
             self.try_stretches(&names, row, marks)?;
         }

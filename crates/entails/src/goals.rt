@@ -5,7 +5,8 @@ ghost use Rattle.entails.specs.Proposition.{Limits-prop};
 
 use claims::Decoded;
 
-// How many names there are, and the parts of both claims: does the first say the second?
+// How many names there are, and the parts of both claims: does the first say the second? The marks are handed on beside it: a
+// struct that holds them by `&mut` would need *the question is unchanged* in every contract.
 #[derive(Clone, Copy)]
 pub struct Goal {
     pub names: u8,

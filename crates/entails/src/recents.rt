@@ -1,20 +1,16 @@
 // The last pairs of names of which a side couldn't be: it is likely that they matter again.
 
-#[derive(Clone, Copy)]
+#[derive(Clone, Copy, Default)]
 pub struct Recent {
     pub pairs: [Option<(u8, u8)>; 8],
 }
 
 impl Recent {
-    pub fn new() -> Recent {
-        Recent { pairs: [None; 8] }
-    }
-
     // Puts a pair in front.
     pub fn note(&mut self, x: u8, y: u8) {
         let pair = Some((x, y));
         let last = self.pairs.iter().position(|old| *old == pair).unwrap_or(7);
-        self.pairs[0..last + 1].rotate_right(1);
+        self.pairs[..=last].rotate_right(1);
         self.pairs[0] = pair;
     }
 }

@@ -6,7 +6,6 @@
 ghost use Rattle.entails.specs.Reducing.{PartOf};
 ghost use Rattle.entails.specs.Searching.{Searched};
 
-use crate::choosing::choose;
 use crate::goals::Goal;
 use crate::recents::Recent;
 use crate::reducing::{Reduced, reduce};
@@ -40,7 +39,7 @@ impl Goal {
                 Reduced::Left(left) => {
                     let wish = wish(self, &left, &known);
                     self.show(&known, wish.detour, marks)?;
-                    let Some((x, y)) = choose(&known, self.names, recent, wish.pair) else {
+                    let Some((x, y)) = self.choose(&known, recent, wish.pair) else {
                         return self.try_all(&known, marks);
                     };
                     let (x, y) = (Name(x), Name(y));

@@ -34,7 +34,7 @@ impl Goal {
         let Some(drawn) = draw(&part, known) else {
             return Ok(());
         };
-        self.search(drawn, part, &mut Recent::new(), marks)
+        self.search(drawn, part, &mut Recent::default(), marks)
             .map_err(|trial| self.shrink(&trial, marks))
     }
 }

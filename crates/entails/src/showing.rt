@@ -4,7 +4,6 @@ ghost use Rattle.entails.specs.Telling.{TrialAgainst};
 
 use crate::goals::Goal;
 use crate::stretches::{Stretch, Trial};
-use crate::telling::places;
 use crate::wishes::Detour;
 use claims::Atom;
 use linked::forks::is_forkless;
@@ -12,12 +11,8 @@ use linked::known::Known;
 
 // Is it a row, and do these names stand for its ends?
 fn is_row(atom: Atom, known: &Known, row: (u8, u8)) -> bool {
-    match atom {
-        Atom::Cell(_, _) => false,
-        Atom::Row(x, y) => {
-            x.0 < 64 && y.0 < 64 && known.find(x.0) == row.0 && known.find(y.0) == row.1
-        }
-    }
+    matches!(atom, Atom::Row(x, y)
+        if x.0 < 64 && y.0 < 64 && known.find(x.0) == row.0 && known.find(y.0) == row.1)
 }
 
 impl Goal {
@@ -46,11 +41,18 @@ impl Goal {
         if !is_forkless(self.first.atoms(), known) {
             return Ok(());
         }
-        let names = places(known, self.names);
-        self.try_one(&names, None, marks)?;
-        match detour.and_then(|detour| self.stretch(known, detour)) {
-            Some(stretch) => self.try_one(&names, Some(stretch), marks),
-            None => Ok(()),
+        let names = self.places(known);
+        self.try_one(
+            Trial {
+                names,
+                stretch: None,
+            },
+            marks,
+        )?;
+        let stretch = detour.and_then(|detour| self.stretch(known, detour));
+        if stretch.is_some() {
+            self.try_one(Trial { names, stretch }, marks)?;
         }
+        Ok(())
     }
 }

@@ -14,7 +14,8 @@ use linked::known::Known;
 // So many memories are tried at the most.
 const TRIALS: usize = 32;
 
-// With x and y the same, if they may be.
+// With x and y the same, if they may be. That names are below 64 is tested wherever nothing is promised: nothing is asked of
+// such a function either, so that it has no fact about names.
 fn joined(known: &Known, x: u8, y: u8) -> Known {
     if x >= 64 || y >= 64 {
         return *known;
@@ -46,10 +47,7 @@ fn emptied(known: &Known, atoms: &[Atom]) -> Known {
 
 // Is it a row that is known to be empty?
 fn is_empty(atom: Atom, known: &Known) -> bool {
-    match atom {
-        Atom::Cell(_, _) => false,
-        Atom::Row(x, y) => x.0 < 64 && y.0 < 64 && known.same(x.0, y.0),
-    }
+    matches!(atom, Atom::Row(x, y) if x.0 < 64 && y.0 < 64 && known.same(x.0, y.0))
 }
 
 // How many rows and cells aren't known to be empty?
@@ -114,9 +112,10 @@ impl Goal {
         ensures { ToldAgainst self.now result }
     {
         let mut told = self.told(trial);
-        let trials = self.round(16, TRIALS, &mut told, marks);
-        let trials = self.round(4, trials, &mut told, marks);
-        let _trials = self.round(1, trials, &mut told, marks);
+        let mut trials = TRIALS;
+        for size in [16, 4, 1] {
+            trials = self.round(size, trials, &mut told, marks);
+        }
         told
     }
 }

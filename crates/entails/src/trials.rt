@@ -10,7 +10,7 @@ ghost use Rattle.memory.specs.Marks.{memory_of};
 ghost use Rattle.entails.specs.Telling.{told_memory, first_of, JudgedAgainst, tried, TriedOne};
 
 use crate::goals::Goal;
-use crate::stretches::{Stretch, Trial};
+use crate::stretches::Trial;
 use crate::told::Told;
 use claims::{Atom, Decoded};
 use memory::cells::SoundMemory;
@@ -46,27 +46,17 @@ impl Goal {
     fn is_against(&self, told: &Told, marks: &mut [u32; 128]) -> bool
         ensures { JudgedAgainst self.now told.now.names (told_memory told.now) result }
     {
-        let Some(memory) = SoundMemory::of(told.memory()) else {
-            return false;
-        };
         let marks = &mut marks[0..told.count];
-        is_so(&self.first, &told.names, memory, marks)
-            && !is_so(&self.second, &told.names, memory, marks)
+        SoundMemory::of(told.memory()).is_some_and(|memory| {
+            is_so(&self.first, &told.names, memory, marks)
+                && !is_so(&self.second, &told.names, memory, marks)
+        })
     }
 
     // Tries the generic memory, or the one in which a row of the first claim goes through a place.
-    pub fn try_one(
-        &self,
-        names: &[u32; 64],
-        stretch: Option<Stretch>,
-        marks: &mut [u32; 128],
-    ) -> Result<(), Trial>
-        ensures { TriedOne self.now names.now (tried names.now (first_of self.now).atoms stretch) result }
+    pub fn try_one(&self, trial: Trial, marks: &mut [u32; 128]) -> Result<(), Trial>
+        ensures { TriedOne self.now trial.names (tried trial.names (first_of self.now).atoms trial.stretch) result }
     {
-        let trial = Trial {
-            names: *names,
-            stretch,
-        };
         let told = write(&trial, self.first.atoms());
         if self.is_against(&told, marks) {
             return Err(trial);

@@ -7,22 +7,14 @@ pub struct Detour {
     pub through: u8,
 }
 
-// Two names of which it should be known whether they are the same; and a row that might go through a place.
-#[derive(Clone, Copy)]
+// Two names of which it should be known whether they are the same; and a row that might go through a place. By default nothing.
+#[derive(Clone, Copy, Default)]
 pub struct Wish {
     pub pair: Option<(u8, u8)>,
     pub detour: Option<Detour>,
 }
 
 impl Wish {
-    // Nothing is wished for.
-    pub fn none() -> Wish {
-        Wish {
-            pair: None,
-            detour: None,
-        }
-    }
-
     // To know whether x and y are the same.
     pub fn pair(x: u8, y: u8) -> Wish {
         Wish {

@@ -35,7 +35,7 @@ fn cell_wish(own: &[Atom], names: u8, x: u8, y: u8) -> Wish {
                 through: names,
             }),
         },
-        None => Wish::none(),
+        None => Wish::default(),
     }
 }
 
@@ -61,7 +61,7 @@ fn inside_wish(atoms: &[Atom], e: usize, t: u8) -> Wish
 fn stuck_wish(stuck: &DeadEnd, t: u8) -> Wish {
     let rest = &stuck.rest;
     let one = rest.ways(stuck.at) < 2;
-    let mut fork = Wish::none();
+    let mut fork = Wish::default();
     // one pass finds the first that leads on, or keeps the last that doesn't
     for e in 0..rest.own {
         if !rest.begins(e, stuck.at) {
@@ -79,9 +79,9 @@ fn stuck_wish(stuck: &DeadEnd, t: u8) -> Wish {
 fn atom_wish(rest: &Rest, names: u8, atom: Atom) -> Wish {
     match atom {
         Atom::Cell(x, y) => cell_wish(&rest.live.as_slice()[..rest.own], names, x.0, y.0),
-        Atom::Row(_, y) if y.0 >= 64 => Wish::none(),
+        Atom::Row(_, y) if y.0 >= 64 => Wish::default(),
         Atom::Row(x, y) => match rest.without_row(x.0, y.0) {
-            Ok(_) => Wish::none(),
+            Ok(_) => Wish::default(),
             Err(stuck) => stuck_wish(&stuck, y.0),
         },
     }
@@ -118,7 +118,7 @@ fn fork(atoms: &[Atom], known: &Known) -> Option<(u8, u8)> {
 
 // What the wanted atoms ask for: of the pairs the first that isn't known, and the first row that might go through a place.
 fn atoms_wish(rest: &Rest, wanted: &[Atom], names: u8) -> Wish {
-    let mut best = Wish::none();
+    let mut best = Wish::default();
     for atom in wanted {
         let wish = atom_wish(rest, names, *atom);
         best = Wish {

@@ -10,10 +10,10 @@ returns-then-is_against c =
     let g = c.args.self.now in
     let t = c.write-told.result in
     subst₂ (λ n m. Against g.names (first_of g) (second_of g) (take g.names n) m) c.write-told.ensures.names
-    (c.write-told.ensures.cells ∙ ap (λ u. tried c.args.names.now (map atom_of u) c.args.stretch) c.atoms.ensures)
+    (c.write-told.ensures.cells ∙ ap (λ u. tried c.args.trial.names (map atom_of u) c.args.trial.stretch) c.atoms.ensures)
     (front_against g t.names (told_memory t) t.all c.if-is_against.ensures)
 
 pub returns : goal.returns
 returns c =
     subst₂ (NotAgainst c.args.self.now) c.write-told.ensures.names
-    (c.write-told.ensures.cells ∙ ap (λ u. tried c.args.names.now (map atom_of u) c.args.stretch) c.atoms.ensures) c.if-is_against.ensures
+    (c.write-told.ensures.cells ∙ ap (λ u. tried c.args.trial.names (map atom_of u) c.args.trial.stretch) c.atoms.ensures) c.if-is_against.ensures
