@@ -69,10 +69,7 @@ fn claim<'a>(scan: &mut Scan<'a>, heap: Global, line: usize) -> Result<Asked<'a>
         return Err(after.missing(Expected::Memory, after.last, item.token));
     }
     let none = Draft::new(heap);
-    match numbered(heap, before.text, line, &draft, &none) {
-        Ok(asked) => Ok(asked),
-        Err(stop) => Err(stop.told_as()),
-    }
+    numbered(heap, before.text, line, &draft, &none).map_err(|stop| stop.told_as())
 }
 
 // The case that begins here, on this line.
@@ -111,10 +108,8 @@ fn recovered(text: &[u8], at: usize) -> usize {
 impl<'a> Cases<'a> {
     // Refuses what is too long to be read, or no text.
     pub fn new(text: &'a [u8]) -> Result<Cases<'a>, Error<'a>> {
-        match Cursor::new(text) {
-            Ok(cursor) => Ok(Cases { cursor }),
-            Err(e) => Err(e.told_as()),
-        }
+        let cursor = Cursor::new(text).map_err(|e| e.told_as())?;
+        Ok(Cases { cursor })
     }
 
     // The next case or the error in it, or `None` at the end of the text.
@@ -127,16 +122,10 @@ impl<'a> Cases<'a> {
             return Ok(None);
         };
         let text = scan.text;
-        match read_case(&mut scan, heap, self.cursor.line()) {
-            Ok(case) => {
-                self.cursor.go_on(first.span, scan.at);
-                Ok(Some(Ok(case)))
-            }
-            Err(Stop::Memory(e)) => Err(e),
-            Err(Stop::Fault(fault)) => {
-                self.cursor.go_on(first.span, recovered(text, fault.at));
-                Ok(Some(Err(self.cursor.error(fault))))
-            }
-        }
+        let read = read_case(&mut scan, heap, self.cursor.line());
+        let next = self
+            .cursor
+            .passed(first.span, scan.at, read, |at| recovered(text, at))?;
+        Ok(Some(next))
     }
 }

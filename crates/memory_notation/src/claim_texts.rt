@@ -1,5 +1,6 @@
 // A claim in a text: parts as in the word form of a question, with a part on a line or commas between.
-// It stands beside the word form, since other words end a part here, and `->` is a sign.
+// It stands beside the word form of `notation`: other words end a part here, `->` is a sign, and a word on the line
+// after `nothing` gets another message.
 ghost use Rattle.std.specs.Prelude.{◌≡◌, OnOk};
 ghost use Rattle.notation.specs.Steps.{Goes, Passes};
 
@@ -89,9 +90,7 @@ pub fn parts<'a>(scan: &mut Scan<'a>, heap: Global) -> Result<Draft, Stop<'a>>
     loop {
         let from = scan.peek().span.start;
         let part = part(scan, expected)?;
-        if let Err(stop) = draft.add(part, from) {
-            return Err(stop.told_as());
-        }
+        draft.add(part, from).map_err(|stop| stop.told_as())?;
         if !goes_on(scan, from)? {
             return Ok(draft);
         }

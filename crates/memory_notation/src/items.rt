@@ -1,4 +1,5 @@
 // The words and signs of this notation: those of the notation for questions, and `claim`, `memory` and `->`.
+// What reads them here are functions and no methods of `Scan`, since a crate can't add methods to another's type.
 ghost use Rattle.std.specs.Prelude.{◌≡◌, ◌<◌, ◌≢◌};
 ghost use Rattle.notation.specs.Steps.{Goes};
 ghost use Rattle.memory_notation.specs.Items.{Advances};

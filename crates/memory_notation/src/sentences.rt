@@ -9,10 +9,11 @@ use std::fmt;
 
 // Where the cell at a place leads.
 fn target(memory: &[u32], place: Place) -> Option<Place> {
-    memory.chunks(2).find_map(|cell| match cell {
-        [at, to] if *at == place.0 => Some(Place(*to)),
-        _ => None,
-    })
+    let (cells, _) = memory.as_chunks::<2>();
+    cells
+        .iter()
+        .find(|[at, _]| *at == place.0)
+        .map(|[_, to]| Place(*to))
 }
 
 // Why the claim of the case doesn't hold.
@@ -24,12 +25,7 @@ struct Reason<'a, 'b> {
 
 impl<'a, 'b> Reason<'a, 'b> {
     fn spelled(&self, name: Name) -> Excerpt<'a> {
-        let asked = &self.case.asked;
-        let i = usize::from(name.0);
-        match asked.names.get(i) {
-            Some(span) if i > 0 => Excerpt::new(span.of(asked.text)),
-            _ => Excerpt::new(b"nowhere"),
-        }
+        Excerpt::new(self.case.asked.spelled(name).as_bytes())
     }
 
     fn place(&self, name: Name) -> Place {
@@ -91,10 +87,8 @@ impl<'a, 'b> Reason<'a, 'b> {
     }
 
     fn left_over<W: fmt::Write>(&self, f: &mut fmt::Formatter<W>, i: usize) -> fmt::Result {
-        let place = match self.case.memory.as_slice().chunks(2).nth(i) {
-            Some([at, ..]) => *at,
-            _ => 0,
-        };
+        let (cells, _) = self.case.memory.as_slice().as_chunks::<2>();
+        let place = cells.get(i).map_or(0, |[at, _]| *at);
         write!(f, "the cell at {place} is left over")
     }
 }

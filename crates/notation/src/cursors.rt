@@ -1,13 +1,14 @@
 // Where the reading of a text goes on. What is read, a question or another thing, begins with a word.
-ghost use Rattle.std.specs.Prelude.{◌≡◌, ◌<◌, ◌≤◌, length, IfOk, IfSome};
+ghost use Rattle.std.specs.Prelude.{◌≡◌, ◌<◌, ◌≤◌, length, Ok, IfOk, OnOk, IfSome};
 
 use crate::errors::Error;
 use crate::places::Place;
 use crate::problems::Problem;
 use crate::scans::Scan;
 use crate::spans::Span;
-use crate::stops::Fault;
+use crate::stops::{Fault, Stop};
 use crate::tokens::{Kind, Token};
+use std::alloc::AllocError;
 use std::str::from_utf8;
 
 // The most bytes of a text that is read.
@@ -75,6 +76,33 @@ impl<'a> Cursor<'a> {
         ensures at { at ≤ self.new.at }
     {
         self.at = first.end.max(at);
+    }
+
+    // What was read up to `at` from the word `first` on, or the error in it: the reading goes on behind it, or where
+    // `recovered` says for the byte of the fault.
+    pub fn passed<T: Drop, P: Drop, F: FnOnce(usize) -> usize + Drop>(
+        &mut self,
+        first: Span,
+        at: usize,
+        read: Result<T, Stop<P>>,
+        recovered: F,
+    ) -> Result<Result<T, Error<P>>, AllocError>
+        requires { F.IsAlwaysCallable recovered }
+        ensures same { self.new.text.now ≡ self.old.text.now }
+        ensures item { IfOk result (λ next. IfOk next (λ item. read ≡ Ok item)) }
+        ensures word { OnOk result (first.end ≤ self.new.at) }
+    {
+        match read {
+            Ok(item) => {
+                self.go_on(first, at);
+                Ok(Ok(item))
+            }
+            Err(Stop::Memory(e)) => Err(e),
+            Err(Stop::Fault(fault)) => {
+                self.go_on(first, recovered(fault.at));
+                Ok(Err(self.error(fault)))
+            }
+        }
     }
 
     // A fault in what was read last, with its line and column.

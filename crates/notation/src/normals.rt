@@ -8,18 +8,25 @@ use std::str::from_utf8;
 
 const INDENT: &str = "     ";
 
-// The word that a part begins with, and its names.
-fn pure_words(pure: Pure) -> (&'static str, Name, Name) {
-    match pure {
-        Pure::Same(x, y) => ("same", x, y),
-        Pure::Other(x, y) => ("other", x, y),
+// A part as it is written: the word that it begins with, and its names.
+#[derive(Clone, Copy)]
+struct Written(&'static str, Name, Name);
+
+impl From<Pure> for Written {
+    fn from(pure: Pure) -> Written {
+        match pure {
+            Pure::Same(x, y) => Written("same", x, y),
+            Pure::Other(x, y) => Written("other", x, y),
+        }
     }
 }
 
-fn atom_words(atom: Atom) -> (&'static str, Name, Name) {
-    match atom {
-        Atom::Cell(x, y) => ("cell", x, y),
-        Atom::Row(x, y) => ("row", x, y),
+impl From<Atom> for Written {
+    fn from(atom: Atom) -> Written {
+        match atom {
+            Atom::Cell(x, y) => Written("cell", x, y),
+            Atom::Row(x, y) => Written("row", x, y),
+        }
     }
 }
 
@@ -43,9 +50,9 @@ impl<'a> Asked<'a> {
         if claim.pures.is_empty() && claim.atoms.is_empty() {
             return write!(f, "{lead}nothing\n");
         }
-        let pures = claim.pures.iter().map(|pure| pure_words(*pure));
-        let atoms = claim.atoms.iter().map(|atom| atom_words(*atom));
-        for (i, (word, x, y)) in pures.chain(atoms).enumerate() {
+        let pures = claim.pures.iter().map(|pure| Written::from(*pure));
+        let atoms = claim.atoms.iter().map(|atom| Written::from(*atom));
+        for (i, Written(word, x, y)) in pures.chain(atoms).enumerate() {
             let lead = if i == 0 { lead } else { INDENT };
             let x = self.spelled(x);
             let y = self.spelled(y);

@@ -88,7 +88,8 @@ pub fn find(text: &[u8], names: &[Span], spelled: &[u8]) -> Option<usize>
     names.iter().position(|name| name.spells(text, spelled))
 }
 
-// The names so far, by where they stand first. The first is nowhere.
+// The names so far, by where they stand first. The first is nowhere. A list that is searched for each mention, and no
+// map: there are at most 64, by their numbers, and the list is what the question keeps.
 #[derive(Drop)]
 pub struct Table<'a> {
     text: &'a [u8],

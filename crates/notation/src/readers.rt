@@ -95,18 +95,10 @@ impl<'a> Reader<'a> {
             return Ok(None);
         };
         let text = scan.text;
-        match scan.question(heap, self.cursor.line()) {
-            Ok(asked) => {
-                self.cursor.go_on(first.span, scan.at);
-                Ok(Some(Ok(asked)))
-            }
-            Err(Stop::Memory(e)) => Err(e),
-            Err(Stop::Fault(fault)) => {
-                let scan = Scan::new(text, fault.at);
-                self.cursor
-                    .go_on(first.span, scan.recovered_from(first.kind));
-                Ok(Some(Err(self.cursor.error(fault))))
-            }
-        }
+        let read = scan.question(heap, self.cursor.line());
+        let next = self.cursor.passed(first.span, scan.at, read, |at| {
+            Scan::new(text, at).recovered_from(first.kind)
+        })?;
+        Ok(Some(next))
     }
 }

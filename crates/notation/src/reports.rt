@@ -88,30 +88,29 @@ fn visible(c: char) -> char {
     if c == '\t' { ' ' } else { shown(c) }
 }
 
-fn show_line(
-    heap: Global,
-    out: &mut String,
-    text: &[u8],
-    window: &Window,
-) -> Result<(), AllocError> {
-    let line = String::from_utf8_lossy(heap, window.span.of(text))?;
-    if window.cut_before {
-        out.push_str("...")?;
-    }
-    for c in line.chars() {
-        out.push(visible(c))?;
-    }
-    out.push_str(if window.cut_after { "...\n" } else { "\n" })
+// A line with a caret below it.
+#[derive(Clone, Copy)]
+struct Pointed<'a> {
+    line: &'a str,
+    window: Window,
 }
 
-fn show_caret(out: &mut String, window: &Window) -> Result<(), AllocError> {
-    if window.cut_before {
-        out.push_str("   ")?;
+impl fmt::Display for Pointed<'_> {
+    fn fmt<W: fmt::Write>(&self, f: &mut fmt::Formatter<W>) -> fmt::Result {
+        let Window {
+            span: _,
+            before,
+            cut_before,
+            cut_after,
+        } = self.window;
+        let (dots, margin) = if cut_before { ("...", "   ") } else { ("", "") };
+        f.write_str(dots)?;
+        for c in self.line.chars() {
+            f.write_char(visible(c))?;
+        }
+        f.write_str(if cut_after { "...\n" } else { "\n" })?;
+        write!(f, "{margin}{:before$}^\n", "")
     }
-    for _ in 0..window.before {
-        out.push(' ')?;
-    }
-    out.push_str("^\n")
 }
 
 // FILE:LINE:COLUMN: MESSAGE, then the line, and a caret below the column.
@@ -121,9 +120,11 @@ pub fn report<P: fmt::Display>(
     text: &[u8],
     error: &Error<P>,
 ) -> Result<String, AllocError> {
-    let mut out = format!(in heap; "{file}:{error}\n")?;
     let window = window_around(text, error.at, error.column);
-    show_line(heap, &mut out, text, &window)?;
-    show_caret(&mut out, &window)?;
-    Ok(out)
+    let line = String::from_utf8_lossy(heap, window.span.of(text))?;
+    let pointed = Pointed {
+        line: line.as_str(),
+        window,
+    };
+    format!(in heap; "{file}:{error}\n{pointed}")
 }

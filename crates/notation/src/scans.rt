@@ -1,5 +1,5 @@
-// A place between the words of a text. What it does is in `tokens`; the struct has a file of its own
-// since the specifications of those contracts name it.
+// A place between the words of a text. What it does is in `tokens`, `faults`, `words`, `lines` and `readers`; the
+// struct has a file of its own since the specifications of those contracts name it.
 ghost use Rattle.std.specs.Prelude.{◌≤◌, length};
 
 #[derive(Clone, Copy)]
