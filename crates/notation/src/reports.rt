@@ -13,26 +13,22 @@ const WIDEST: usize = 80;
 // What is left of it then, without the `...` on both sides.
 const KEPT: usize = 70;
 
-// Where the character begins that has so many columns of the line before it, or the line ends.
-fn width(line: &[u8], columns: usize) -> usize
-    ensures { result ≤ length line.now }
+// Where the character begins that has so many columns of the text before it, or the line ends. No more is looked at.
+fn width(text: &[u8], columns: usize) -> usize
+    ensures { result ≤ length text.now }
 {
-    line.iter()
+    text.iter()
         .enumerate()
         .filter(|(_, byte)| begins_character(**byte))
-        .nth(columns)
-        .map_or(line.len(), |(at, _)| at)
+        .enumerate()
+        .find(|(before, (_, byte))| *before == columns || ends_line(**byte))
+        .map_or(text.len(), |(_, (at, _))| at)
 }
 
 // The place so many columns further on in the line, or the line's end.
 fn forward(text: &[u8], from: usize, columns: usize) -> usize {
     let from = from.min(text.len());
-    let rest = &text[from..];
-    let end = rest
-        .iter()
-        .position(|byte| ends_line(*byte))
-        .unwrap_or(rest.len());
-    from + width(&rest[0..end], columns)
+    from + width(&text[from..], columns)
 }
 
 // The place so many columns further back, or the text's beginning.
