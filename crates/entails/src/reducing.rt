@@ -6,6 +6,7 @@ use crate::pures::pures_match;
 use linked::known::Known;
 use matching::parts::Part;
 
+#[derive(Clone, Copy)]
 pub enum Reduced {
     // all is found
     Done,
@@ -29,8 +30,7 @@ pub fn reduce(goal: &Goal, part: &Part, known: &Known) -> Reduced
     if left.own.count == 0 && left.wanted.count == 0 {
         return Reduced::Done;
     }
-    match left.cut() {
-        Some((one, rest)) => Reduced::Split(one, rest),
-        None => Reduced::Left(left),
-    }
+    left.cut().map_or(Reduced::Left(left), |(one, rest)| {
+        Reduced::Split(one, rest)
+    })
 }
