@@ -2,7 +2,7 @@
 //
 // A memory that is tried is written down and then checked by what claims mean, so that nothing depends on where it
 // came from.
-ghost use Rattle.std.specs.Prelude.{◌≡◌, ◌/◌, ◌≤◌, map, length, Decides};
+ghost use Rattle.std.specs.Prelude.{IfErr, ◌≡◌, ◌/◌, ◌≤◌, map, length, Decides};
 ghost use Rattle.claims.specs.Decoding.{decoded_claim};
 ghost use Rattle.claims.specs.Meaning.{atom_of};
 ghost use Rattle.claims.specs.Memory.{Says};
@@ -55,7 +55,8 @@ impl Goal {
 
     // Tries the generic memory, or the one in which a row of the first claim goes through a place.
     pub fn try_one(&self, trial: Trial, marks: &mut [u32; 128]) -> Result<(), Trial>
-        ensures { TriedOne self.now trial.names (tried trial.names (first_of self.now).atoms trial.stretch) result }
+        ensures tried { TriedOne self.now trial.names (tried trial.names (first_of self.now).atoms trial.stretch) result }
+        ensures same { IfErr result (λ against. against ≡ trial) }
     {
         let told = write(&trial, self.first.atoms());
         if self.is_against(&told, marks) {
