@@ -11,22 +11,16 @@ impl Goal {
     // Tries the memories in which a row of the first claim goes through a place: each name's, or one without a name.
     fn try_stretches(
         &self,
-        names: &[u32; 64],
+        names: [u32; 64],
         row: usize,
         marks: &mut [u32; 128],
     ) -> Result<(), Trial>
-        ensures tried { IfOk result (λ _. StretchesTried self.now names.now row (self.now.names + 1)) }
+        ensures tried { IfOk result (λ _. StretchesTried self.now names row (self.now.names + 1)) }
         ensures against { IfErr result (TrialAgainst self.now) }
     {
         for through in 1..=u32::from(self.names) {
             let stretch = Some(Stretch { row, through });
-            self.try_one(
-                Trial {
-                    names: *names,
-                    stretch,
-                },
-                marks,
-            )?;
+            self.try_one(Trial { names, stretch }, marks)?;
         }
         Ok(())
     }
@@ -37,15 +31,13 @@ impl Goal {
         ensures { Exactly self.now known.now result }
     {
         let names = self.places(known);
-        self.try_one(
-            Trial {
-                names,
-                stretch: None,
-            },
-            marks,
-        )?;
+        let generic = Trial {
+            names,
+            stretch: None,
+        };
+        self.try_one(generic, marks)?;
         for row in 0..self.first.shape.atoms {
-            self.try_stretches(&names, row, marks)?;
+            self.try_stretches(names, row, marks)?;
         }
         Ok(())
     }

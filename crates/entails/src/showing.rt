@@ -42,13 +42,11 @@ impl Goal {
             return Ok(());
         }
         let names = self.places(known);
-        self.try_one(
-            Trial {
-                names,
-                stretch: None,
-            },
-            marks,
-        )?;
+        let generic = Trial {
+            names,
+            stretch: None,
+        };
+        self.try_one(generic, marks)?;
         let stretch = detour.and_then(|detour| self.stretch(known, detour));
         if stretch.is_some() {
             self.try_one(Trial { names, stretch }, marks)?;
