@@ -17,6 +17,7 @@ pub fn side(part: &Part, known: &Known, pure: Pure) -> Option<Known>
     ensures side { OnSide known.now (pure_of pure) (whole_of part.now) result }
     ensures fewer { Fewer known.now (left (pure_of pure)) (right (pure_of pure)) result }
 {
+    // as `linked` takes up one of a claim, which there need not promise that fewer pairs are undecided
     let more = match pure {
         Pure::Same(x, y) => known.join(x.0, y.0)?,
         Pure::Other(x, y) => known.part(x.0, y.0)?,
