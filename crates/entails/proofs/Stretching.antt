@@ -1,7 +1,8 @@
 -- Memories to try, written atom by atom, and what it means that none of them is against it.
 --
--- stretched_through, tried_on: one atom more, which goes through the place or doesn't.
--- tried-enough: enough cells are enough.
+-- stretched_through, stretched_on, tried_on: one atom more, which goes through the place or doesn't.
+-- stretched_plain: past the last atom nothing is stretched.
+-- stretched-enough, tried-enough: enough cells are enough.
 use Rattle.std.proofs.Common.{◌≡◌, ℕ, zero, suc, ◌≤◌, List, [], ◌∷◌, ◌++◌, length, Some, None, Option, sym, refl, ap, ◌∙◌, append_assoc, arith, length-append}
 use Rattle.std.proofs.lemmas.List.{append-nil}
 use Rattle.claims.specs.Claims.{Atom, cell, row}
@@ -13,7 +14,7 @@ use Rattle.entails.specs.declared.stretches.Stretch.{Stretch}
 use Rattle.std.proofs.lemmas.Bool.{cond_both}
 
 module _ (g : Names) (a : Atom) where
-  generic_push : (cs : List Atom) → generic g (cs ++ a ∷ []) ≡ generic g cs ++ linked g a
+  pub generic_push : (cs : List Atom) → generic g (cs ++ a ∷ []) ≡ generic g cs ++ linked g a
   generic_push [] = append-nil (linked g a)
   generic_push (b ∷ cs) =
       ap (λ m. linked g b ++ m) (generic_push cs) ∙ sym (append_assoc (linked g b) (generic g cs) (linked g a))
@@ -27,7 +28,7 @@ module _ (g : Names) (a : Atom) where
       ap (λ m. linked g b ++ m) (stretched_through cs i t (omega arith)) ∙
       sym (append_assoc (linked g b) (stretched g cs i t) (linked_through g a t))
 
-  stretched_on :
+  pub stretched_on :
       (cs : List Atom) (i t : ℕ) → (i ≡ length cs → ⊥) → stretched g (cs ++ a ∷ []) i t ≡ stretched g cs i t ++ linked g a
   stretched_on [] zero t e = absurd (e refl)
   stretched_on [] (suc i) t e = append-nil (linked g a)
@@ -44,6 +45,11 @@ module _ (g : Names) (a : Atom) where
   tried_on cs None h = generic_push cs
   tried_on cs (Some t) h = stretched_on cs t.row t.through (h t refl)
 
+pub stretched_plain : (g : Names) (cs : List Atom) (i t : ℕ) → length cs ≤ i → stretched g cs i t ≡ generic g cs
+stretched_plain g [] i t h = refl
+stretched_plain g (a ∷ cs) zero t h = absurd (omega arith)
+stretched_plain g (a ∷ cs) (suc i) t h = ap (λ m. linked g a ++ m) (stretched_plain g cs i t (omega arith))
+
 -- an atom has at most two cells
 linked_few : (g : Names) (a : Atom) → length (linked g a) ≤ 1
 linked_few g a =
@@ -59,7 +65,7 @@ generic_few : (g : Names) (cs : List Atom) → length (generic g cs) ≤ length 
 generic_few g [] = omega arith
 generic_few g (a ∷ cs) = omega (arith, length-append (linked g a) (generic g cs), linked_few g a, generic_few g cs)
 
-stretched-enough : (g : Names) (cs : List Atom) (i t : ℕ) → length (stretched g cs i t) ≤ enough (length cs)
+pub stretched-enough : (g : Names) (cs : List Atom) (i t : ℕ) → length (stretched g cs i t) ≤ enough (length cs)
 stretched-enough g [] i t = omega arith
 stretched-enough g (a ∷ cs) zero t =
     omega (arith, length-append (linked_through g a t) (generic g cs), through_few g a t, generic_few g cs)

@@ -1,9 +1,8 @@
 // Choosing two names to go on with: once as the same, and once as other.
-ghost use Rattle.std.specs.Prelude.{◌≡◌, ◌<◌, true, IfSome};
+ghost use Rattle.std.specs.Prelude.{◌≡◌, ◌<◌, ◌≤◌, true, IfSome};
 ghost use Rattle.linked.specs.Knowing.{undecided};
 ghost use Rattle.entails.specs.Searching.{Chosen, IsOpen, OpenWith};
 
-use crate::goals::Goal;
 use crate::recents::Recent;
 use linked::known::Known;
 
@@ -36,28 +35,29 @@ fn lately(known: &Known, recent: &Recent) -> Option<(u8, u8)>
         .find(|pair| is_open_pair(known, *pair))
 }
 
-impl Goal {
-    // A name of which it isn't known whether it is the same as x.
-    fn open_with(&self, known: &Known, x: u8) -> Option<u8>
-        requires { x < 64 }
-        ensures { OpenWith known.now x self.now.names result }
-    {
-        (0..self.names).find(|y| is_open(known, x, *y))
-    }
+// A name below `names` of which it isn't known whether it is the same as x.
+fn open_with(known: &Known, x: u8, names: u8) -> Option<u8>
+    requires small { x < 64 }
+    requires few { names ≤ 64 }
+    ensures { OpenWith known.now x names result }
+{
+    (0..names).find(|y| is_open(known, x, *y))
+}
 
-    // Two names of which it isn't known; none, if all is known.
-    fn any_open(&self, known: &Known) -> Option<(u8, u8)>
-        ensures { Chosen known.now self.now.names result }
-    {
-        (0..self.names).find_map(|x| self.open_with(known, x).map(|y| (x, y)))
-    }
+// Two names of which it isn't known; none, if all is known of the first `names`.
+fn any_open(known: &Known, names: u8) -> Option<(u8, u8)>
+    requires { names ≤ 64 }
+    ensures { Chosen known.now names result }
+{
+    (0..names).find_map(|x| open_with(known, x, names).map(|y| (x, y)))
+}
 
-    // Two names of which it isn't known: as lately, or as wished for, or any; none, if all is known.
-    pub fn choose(&self, known: &Known, recent: &Recent, wish: Option<(u8, u8)>) -> Option<(u8, u8)>
-        ensures { Chosen known.now self.now.names result }
-    {
-        lately(known, recent)
-            .or(wish.filter(|pair| is_open_pair(known, *pair)))
-            .or_else(|| self.any_open(known))
-    }
+// Two names of which it isn't known: as lately, or as wished for, or any; none, if all is known.
+pub fn choose(known: &Known, names: u8, recent: &Recent, wish: Option<(u8, u8)>) -> Option<(u8, u8)>
+    requires { names ≤ 64 }
+    ensures { Chosen known.now names result }
+{
+    lately(known, recent)
+        .or(wish.filter(|pair| is_open_pair(known, *pair)))
+        .or_else(|| any_open(known, names))
 }

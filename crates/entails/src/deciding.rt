@@ -59,7 +59,7 @@ pub fn decide(words: &[u32], out: &mut [u32], work: &mut [u32]) -> Decided
     let Some(goal) = read_goal(words) else {
         return Decided::NoClaims;
     };
-    match goal.settle(work.first_chunk_mut().unwrap()) {
+    match goal.settle(work) {
         Ok(()) => Decided::Follows,
         Err(told) => tell(&goal, &told, out),
     }

@@ -3,9 +3,11 @@
 // Take out what is found, and go through parts that have nothing to do with each other one by one; try
 // the memories that a failed match points at; and else go on with two names, once as the same and once as other. Both are
 // always gone through, with what can be drawn then, so that it matters only for speed which two they are.
+ghost use Rattle.std.specs.Prelude.{◌≤◌, length};
 ghost use Rattle.entails.specs.Reducing.{PartOf};
 ghost use Rattle.entails.specs.Searching.{Searched};
 
+use crate::choosing::choose;
 use crate::goals::Goal;
 use crate::recents::Recent;
 use crate::reducing::{Reduced, reduce};
@@ -23,9 +25,10 @@ impl Goal {
         mut known: Known,
         mut part: Part,
         recent: &mut Recent,
-        marks: &mut [u32; 128],
+        marks: &mut [u32],
     ) -> Result<(), Trial>
-        requires { PartOf self.now known part }
+        requires room { 128 ≤ length marks.old }
+        requires part_of { PartOf self.now known part }
         ensures { Searched self.now known part result }
     {
         'others: loop {
@@ -37,9 +40,9 @@ impl Goal {
                     continue 'others;
                 }
                 Reduced::Left(left) => {
-                    let wish = wish(self, &left, &known);
+                    let wish = wish(self.names, self.second.pures(), &left, &known);
                     self.show(&known, wish.detour, marks)?;
-                    let Some((x, y)) = self.choose(&known, recent, wish.pair) else {
+                    let Some((x, y)) = choose(&known, self.names, recent, wish.pair) else {
                         return self.try_all(&known, marks);
                     };
                     let (x, y) = (Name(x), Name(y));

@@ -1,4 +1,5 @@
 // Settling a whole question.
+ghost use Rattle.std.specs.Prelude.{◌≤◌, length};
 ghost use Rattle.entails.specs.Reducing.{Whole};
 ghost use Rattle.entails.specs.Deciding.{GoalSettled};
 
@@ -24,7 +25,8 @@ impl Goal {
     }
 
     // Does the second claim follow from the first? If not, names and a memory that are against it.
-    pub fn settle(&self, marks: &mut [u32; 128]) -> Result<(), Told>
+    pub fn settle(&self, marks: &mut [u32]) -> Result<(), Told>
+        requires { 128 ≤ length marks.old }
         ensures { GoalSettled self.now result }
     {
         let Some(known) = assume(self.first.pures(), Known::new()) else {
@@ -35,6 +37,6 @@ impl Goal {
             return Ok(());
         };
         self.search(drawn, part, &mut Recent::default(), marks)
-            .map_err(|trial| self.shrink(&trial, marks))
+            .map_err(|trial| self.shrink(self.told(&trial), marks))
     }
 }

@@ -1,9 +1,10 @@
 // Memories that a failed match points at: the generic one, and one in which a row goes through a place.
-ghost use Rattle.std.specs.Prelude.{IfErr};
+ghost use Rattle.std.specs.Prelude.{◌≤◌, IfErr, length};
 ghost use Rattle.entails.specs.Telling.{TrialAgainst};
 
 use crate::goals::Goal;
 use crate::stretches::{Stretch, Trial};
+use crate::telling::places;
 use crate::wishes::Detour;
 use claims::Atom;
 use linked::forks::is_forkless;
@@ -34,14 +35,15 @@ impl Goal {
         &self,
         known: &Known,
         detour: Option<Detour>,
-        marks: &mut [u32; 128],
+        marks: &mut [u32],
     ) -> Result<(), Trial>
+        requires { 128 ≤ length marks.old }
         ensures { IfErr result (TrialAgainst self.now) }
     {
         if !is_forkless(self.first.atoms(), known) {
             return Ok(());
         }
-        let names = self.places(known);
+        let names = places(known, self.names);
         let generic = Trial {
             names,
             stretch: None,

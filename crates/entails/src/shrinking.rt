@@ -1,6 +1,6 @@
 // Making a told memory small, for people's sake: the ends of rows are tried as the same, as long as that leaves a memory
 // with fewer cells that is still against it. Of how small it gets nothing is promised.
-ghost use Rattle.std.specs.Prelude.{◌<◌, IfSome};
+ghost use Rattle.std.specs.Prelude.{◌<◌, ◌≤◌, IfSome, length};
 ghost use Rattle.entails.specs.Telling.{ToldAgainst, TrialAgainst};
 
 use crate::goals::Goal;
@@ -14,32 +14,42 @@ use linked::known::Known;
 // So many memories are tried at the most.
 const TRIALS: usize = 32;
 
-// With x and y the same, if they may be. That names are below 64 is tested wherever nothing is promised: nothing is asked of
-// such a function either, so that it has no fact about names.
-fn joined(known: &Known, x: u8, y: u8) -> Known {
+// With x and y the same, or nothing if they can't be: what is known then is a copy, and a caller that has it keeps it. That names
+// are below 64 is tested wherever nothing is promised: nothing is asked of such a function either, so that it has no fact about
+// names.
+fn joined(known: &Known, x: u8, y: u8) -> Option<Known> {
     if x >= 64 || y >= 64 {
-        return *known;
+        return None;
     }
-    known.join(x, y).unwrap_or(*known)
+    known.join(x, y)
 }
 
 // What is known of names that stand for the same in what is told.
 fn told_same(told: &Told, names: u8) -> Known {
     let mut known = Known::new();
     for (x, place) in (0..names).zip(&told.names) {
-        if let Ok(place) = u8::try_from(*place) {
-            known = joined(&known, x, place);
+        let place = u8::try_from(*place).ok();
+        if let Some(more) = place.and_then(|place| joined(&known, x, place)) {
+            known = more;
         }
     }
     known
+}
+
+// With the ends of a row the same, or nothing if they can't be.
+fn emptied_row(known: &Known, atom: Atom) -> Option<Known> {
+    match atom {
+        Atom::Cell(_, _) => None,
+        Atom::Row(x, y) => joined(known, x.0, y.0),
+    }
 }
 
 // With the ends of these rows the same, if they may be.
 fn emptied(known: &Known, atoms: &[Atom]) -> Known {
     let mut more = *known;
     for atom in atoms {
-        if let Atom::Row(x, y) = *atom {
-            more = joined(&more, x.0, y.0);
+        if let Some(joined) = emptied_row(&more, *atom) {
+            more = joined;
         }
     }
     more
@@ -57,7 +67,7 @@ fn full(atoms: &[Atom], known: &Known) -> usize {
 
 impl Goal {
     // What is told of a trial that is against it.
-    fn told(&self, trial: &Trial) -> Told
+    pub fn told(&self, trial: &Trial) -> Told
         requires { TrialAgainst self.now trial.now }
         ensures { ToldAgainst self.now result }
     {
@@ -65,10 +75,11 @@ impl Goal {
     }
 
     // A memory with fewer cells, if one is found where this is known of names.
-    fn smaller(&self, known: &Known, told: &Told, marks: &mut [u32; 128]) -> Option<Told>
+    fn smaller(&self, known: &Known, told: &Told, marks: &mut [u32]) -> Option<Told>
+        requires { 128 ≤ length marks.old }
         ensures { IfSome result (ToldAgainst self.now) }
     {
-        let wish = wish(self, &self.whole(known), known);
+        let wish = wish(self.names, self.second.pures(), &self.whole(known), known);
         self.show(known, wish.detour, marks)
             .err()
             .map(|trial| self.told(&trial))
@@ -76,14 +87,9 @@ impl Goal {
     }
 
     // One round over the rows, so many at a time; answers how many trials are left.
-    fn round(
-        &self,
-        size: usize,
-        mut trials: usize,
-        told: &mut Told,
-        marks: &mut [u32; 128],
-    ) -> usize
+    fn round(&self, size: usize, mut trials: usize, told: &mut Told, marks: &mut [u32]) -> usize
         requires some { 0 < size }
+        requires room { 128 ≤ length marks.old }
         requires against { ToldAgainst self.now told.old }
         ensures { ToldAgainst self.now told.new }
     {
@@ -106,12 +112,12 @@ impl Goal {
         trials
     }
 
-    // What is told of a trial that is against it, made small.
-    pub fn shrink(&self, trial: &Trial, marks: &mut [u32; 128]) -> Told
-        requires { TrialAgainst self.now trial.now }
+    // What is told, made small.
+    pub fn shrink(&self, mut told: Told, marks: &mut [u32]) -> Told
+        requires room { 128 ≤ length marks.old }
+        requires against { ToldAgainst self.now told }
         ensures { ToldAgainst self.now result }
     {
-        let mut told = self.told(trial);
         let mut trials = TRIALS;
         for size in [16, 4, 1] {
             trials = self.round(size, trials, &mut told, marks);

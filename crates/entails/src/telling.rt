@@ -6,36 +6,37 @@ ghost use Rattle.models.specs.Generic.{linked, linked_through};
 ghost use Rattle.matching.specs.Rules.{StandsAt};
 ghost use Rattle.entails.specs.Telling.{told_memory};
 
-use crate::goals::Goal;
 use crate::told::Told;
 use claims::Atom;
 use linked::known::Known;
 use memory::walks::at;
 
-impl Goal {
-    // The number of the name that stands for x, or nowhere if there are not so many names.
-    fn place_of(&self, known: &Known, x: u8) -> u32
-        ensures root { x < self.now.names → result ≡ root known.now.stands x }
-        ensures below { result < self.now.names }
-    {
-        if x < self.names {
-            u32::from(known.find(x))
-        } else {
-            0
-        }
+// The number of the name that stands for x, or nowhere if there are not so many names.
+fn place_of(known: &Known, x: u8, names: u8) -> u32
+    requires some { 1 ≤ names }
+    requires small { x < 64 }
+    ensures root { x < names → result ≡ root known.now.stands x }
+    ensures below { result < names }
+{
+    if x < names {
+        u32::from(known.find(x))
+    } else {
+        0
     }
+}
 
-    // Each name at the number of the one that stands for it.
-    pub fn places(&self, known: &Known) -> [u32; 64]
-        ensures { StandsAt self.now.names known.now result }
-    {
-        let mut places = [0; 64];
-        // an index, since of a call in `array::from_fn` a proof can't reach a clause that says *if*, as `place_of` has
-        for x in 0..64u8 {
-            places[x as usize] = self.place_of(known, x);
-        }
-        places
+// Each of so many names at the number of the one that stands for it.
+pub fn places(known: &Known, names: u8) -> [u32; 64]
+    requires some { 1 ≤ names }
+    requires few { names ≤ 64 }
+    ensures { StandsAt names known.now result }
+{
+    let mut places = [0; 64];
+    // an index, since of a call in `array::from_fn` a proof can't reach a clause that says *if*, as `place_of` has
+    for x in 0..64u8 {
+        places[x as usize] = place_of(known, x, names);
     }
+    places
 }
 
 impl Told {

@@ -43,7 +43,8 @@ fn is_so(claim: &Decoded, names: &[u32; 64], memory: SoundMemory, marks: &mut [u
 
 impl Goal {
     // Is what is told against it: is the memory sound, does the first claim hold of it, and the second not?
-    fn is_against(&self, told: &Told, marks: &mut [u32; 128]) -> bool
+    fn is_against(&self, told: &Told, marks: &mut [u32]) -> bool
+        requires { 128 ≤ length marks.old }
         ensures { JudgedAgainst self.now told.now.names (told_memory told.now) result }
     {
         let marks = &mut marks[0..told.count];
@@ -54,7 +55,8 @@ impl Goal {
     }
 
     // Tries the generic memory, or the one in which a row of the first claim goes through a place.
-    pub fn try_one(&self, trial: Trial, marks: &mut [u32; 128]) -> Result<(), Trial>
+    pub fn try_one(&self, trial: Trial, marks: &mut [u32]) -> Result<(), Trial>
+        requires { 128 ≤ length marks.old }
         ensures tried { TriedOne self.now trial.names (tried trial.names (first_of self.now).atoms trial.stretch) result }
         ensures same { IfErr result (λ against. against ≡ trial) }
     {

@@ -5,17 +5,15 @@
 ghost use Rattle.std.specs.Prelude.{◌<◌, length};
 
 use crate::choosing::is_open_pair;
-use crate::goals::Goal;
 use crate::wishes::{Detour, Wish};
-use claims::Atom;
+use claims::{Atom, Pure};
 use linked::known::Known;
 use matching::parts::Part;
 use matching::rests::{DeadEnd, Rest};
 
-// The first same or other of the second claim of which it isn't known.
-fn pure_wish(goal: &Goal, known: &Known) -> Option<(u8, u8)> {
-    goal.second
-        .pures()
+// The first same or other of which it isn't known.
+fn pure_wish(pures: &[Pure], known: &Known) -> Option<(u8, u8)> {
+    pures
         .iter()
         .map(|pure| {
             let (x, y) = pure.names();
@@ -131,14 +129,14 @@ fn atoms_wish(rest: &Rest, wanted: &[Atom], names: u8) -> Wish {
     best
 }
 
-// What would help on.
-pub fn wish(goal: &Goal, part: &Part, known: &Known) -> Wish {
-    if let Some((x, y)) = pure_wish(goal, known) {
+// What would help on with a part of a question, which has so many names, and in its second claim these *same* and *other*.
+pub fn wish(names: u8, pures: &[Pure], part: &Part, known: &Known) -> Wish {
+    if let Some((x, y)) = pure_wish(pures, known) {
         return Wish::pair(x, y);
     }
     let whole = part.whole();
     let rest = Rest::new(&whole, part.own.count, known);
-    let wish = atoms_wish(&rest, part.wanted.as_slice(), goal.names);
+    let wish = atoms_wish(&rest, part.wanted.as_slice(), names);
     let pair = wish
         .pair
         .or_else(|| left_over(part.own.as_slice(), known))

@@ -1,13 +1,15 @@
 -- All 64 names, each at the number of the one that stands for it: they agree with what is known (`numbers_agree`).
-use Rattle.std.proofs.Common.{◌≡◌, ℕ, ◌<◌, List, sym, ◌∙◌, arith, eq-eqb}
-use Rattle.claims.specs.Claims.{Atom}
+use Rattle.std.proofs.Common.{◌≡◌, ℕ, ◌<◌, List, length, get_or, sym, ap, ◌∙◌, arith, eq-eqb}
+use Rattle.claims.specs.Claims.{Atom, row}
 use Rattle.claims.specs.Memory.{at}
+use Rattle.memory.specs.Owners.{start}
+use Rattle.std.proofs.lemmas.List.{get_or_default}
 use Rattle.models.specs.Generic.{ForkFree}
 use Rattle.models.proofs.Generic.{generic_dealt}
 use Rattle.models.proofs.Forks.{fork_free_sound}
 use Rattle.linked.specs.Stands.{root}
 use Rattle.linked.specs.Knowing.{Agrees}
-use Rattle.linked.specs.Forking.{numbers, HasGeneric}
+use Rattle.linked.specs.Forking.{numbers, HasGeneric, begin_of, ApartSoFar}
 use Rattle.linked.specs.declared.known.Known.{Known}
 use Rattle.linked.proofs.FirstNumbers.{at-first_numbers, first_numbers_agree}
 
@@ -26,3 +28,16 @@ has-generic k cs f =
       sound_m = s;
       dealt = generic_dealt (numbers k) cs s;
     }
+
+-- atoms that begin somewhere, and no two at one place
+pub fork_free :
+    (k : Known) (cs : List Atom) → ((i : ℕ) → i < length cs → start (get_or cs i (row 0 0)) < 64) → ApartSoFar k cs (length cs) →
+    ForkFree (numbers k) cs
+fork_free k cs small apart =
+    record {
+      somewhere = λ i d h ne e. (apart i h).0 (sym (place i d h) ∙ e);
+      apart = λ i j d l h ni nj e. (apart i (omega arith)).1 j l h (sym (place j d h) ∙ sym e ∙ place i d (omega arith));
+    }
+  where
+    place : (i : ℕ) (d : Atom) → i < length cs → at (numbers k) (start (get_or cs i d)) ≡ begin_of k cs i
+    place i d h = ap (λ a. at (numbers k) (start a)) (get_or_default cs i d (row 0 0) h) ∙ at-numbers k (start (get_or cs i (row 0 0))) (small i h)

@@ -24,12 +24,23 @@ impl Reach<'_> {
         atoms.iter().enumerate().any(|(j, atom)| j != self.without && self.is_cell_reached(atom))
     }
 
+    // Are both reached, and known to be other?
+    fn are_other(&self, known: &Known, x: u8, y: u8) -> bool
+        requires x_small { x < 64 }
+        requires y_small { y < 64 }
+        ensures { result ≡ true → Barred known.now (atoms_of self.now.live.now) self.now.without self.now.from }
+    {
+        self.names.has(x) && self.names.has(y) && known.others[x as usize].has(y)
+    }
+
     // Is x reached, and known to be other than a name that is reached?
     fn is_other_reached(&self, known: &Known, x: u8) -> bool
         requires { x < 64 }
         ensures { result ≡ true → Barred known.now (atoms_of self.now.live.now) self.now.without self.now.from }
     {
-        self.names.has(x) && known.others[x as usize].mask().meets(self.names)
+        // most names have none of the others in common with what is reached: the look at each is left out
+        known.others[x as usize].mask().meets(self.names)
+            && (0..64u8).any(|y| self.are_other(known, x, y))
     }
 
     // Can the place from which they are reached be none of the cells of the atom that is left out? Only if that is

@@ -44,6 +44,23 @@ impl View<'_> {
                 .any(|(j, atom)| j != e && atom.start() == start)
     }
 
+    // The first thing that a look at one of the atoms finds out.
+    pub fn next_step(&self) -> Result<Option<(u8, u8)>, Never>
+        ensures { FoundOut self.now.known.now (atoms_of self.now.live.now) result }
+    {
+        // a look is at an atom's number, not at the atom alone
+        for e in 0..self.live.count {
+            if !self.is_worth_a_look(e) {
+                continue;
+            }
+            let found = self.look(e);
+            if found != Ok(None) {
+                return found;
+            }
+        }
+        Ok(None)
+    }
+
     // One look at each of the atoms, at what was known before: all that they find out is joined, since what is found from
     // less stays true. A new look after each would cost more.
     pub fn round(&self) -> Option<Known>
@@ -51,7 +68,6 @@ impl View<'_> {
         ensures no_more { NoMore self.now.known.now result }
     {
         let mut more = *self.known;
-        // a look is at an atom's number, not at the atom alone
         for e in 0..self.live.count {
             if !self.is_worth_a_look(e) {
                 continue;

@@ -1,16 +1,16 @@
 -- What words ask: the ways of `whole_claim` and of `check`.
-use Rattle.std.proofs.Common.{◌≡◌, ℕ, ◌+◌, ◌*◌, ◌%◌, ◌≤◌, T, List, [], ◌∷◌, ◌++◌, length, take, drop, Ok, Err, Result, sym, ap, ◌∙◌, subst, arith}
+use Rattle.std.proofs.Common.{◌≡◌, ℕ, ◌+◌, ◌*◌, ◌%◌, ◌≤◌, true, Bool, T, List, [], ◌∷◌, ◌++◌, length, take, drop, Ok, Err, Result, false, refl, sym, ap, ◌∙◌, subst, arith}
 use borrow.Rule.Slice.PartMut.{put_mid}
 use Rattle.std.proofs.lemmas.List.{append-nil, take-append-drop}
 use Rattle.claims.specs.Claims.{Claim}
 use Rattle.claims.specs.Words.{claim_words, Fits}
-use Rattle.claims.specs.Memory.{Memory, sound}
+use Rattle.claims.specs.Memory.{Memory, sound, Says}
 use Rattle.claims.specs.Decoding.{decoded_claim, Decodes}
 use Rattle.claims.specs.declared.decoded.Decoded.{Decoded}
 use Rattle.claims.proofs.ClaimWords.{claim_one, length_claim, claim_whole}
 use Rattle.memory.specs.Marks.{memory_of}
-use Rattle.memory.specs.Judging.{Judged}
-use Rattle.memory.specs.Checking.{IsClaim, Asks, Room, Answer, CheckedPost}
+use Rattle.memory.specs.Judging.{FailsFor, Judged}
+use Rattle.memory.specs.Checking.{IsClaim, Asks, Room, Asked, Answer, CheckedPost}
 use Rattle.memory.specs.declared.checks.Refusal.{Refusal}
 use Rattle.memory.specs.declared.deals.Why.{Why}
 use Rattle.memory.proofs.Marking.{memory_words_of, words_memory, length-words}
@@ -18,7 +18,7 @@ use Rattle.memory.proofs.Theorems.{precise, rows_join, one_asked}
 
 -- the words are x and those of u
 module _ (s : List ℕ) (x : ℕ) (u : List ℕ) (are : s ≡ x ∷ u) where
-  claim_apart : (k : ℕ) (c : Claim) → IsClaim s k c → (k ≡ x) × (u ≡ claim_words c ++ [])
+  pub claim_apart : (k : ℕ) (c : Claim) → IsClaim s k c → (k ≡ x) × (u ≡ claim_words c ++ [])
   claim_apart k c h =
       let same = sym h.words ∙ are in
       let behind : u ≡ claim_words c = cc same in
@@ -52,6 +52,10 @@ module _ (s : List ℕ) (x : ℕ) (u : List ℕ) (are : s ≡ x ∷ u) where
           fits = decodes.fits;
         }
 
+is_true : (b : Bool) → T b → true ≡ b
+is_true true t = refl
+is_true false t = absurd t
+
 -- why nothing is asked of a memory
 pub data NotAsked (k : ℕ) (n t : List ℕ) : Type 0 where
   other_names : (length n ≡ k → ⊥) → NotAsked k n t
@@ -71,16 +75,26 @@ not_asked s n t k j c d m is (unsound no-sound) h =
     no-sound (subst P (sym same) h.memory_sound)
 
 pub asked :
+    (s n t w : List ℕ) (k : ℕ) (c : Claim) (P : Memory → Claim → Type 0) → Room t w → IsClaim s k c → length n ≡ k →
+    length t % 2 ≡ 0 → true ≡ sound (memory_of t) → P (memory_of t) c → Asked s n t w P
+asked s n t w k c P room is count even is_sound so =
+    record {
+      room = room;
+      names = k;
+      claim = c;
+      memory = memory_of t;
+      asks = record { claim_is = is; names_are = count; memory_is = words_memory t even; memory_sound = subst T is_sound tt };
+      so = so;
+    }
+
+-- what `check` answers of it
+pub asked_judged :
     (s n t w : List ℕ) (k : ℕ) (c : Claim) (r : Result Unit Why) → Room t w → IsClaim s k c → length n ≡ k → length t % 2 ≡ 0 →
     T (sound (memory_of t)) → Judged n (memory_of t) c r → Answer s n t w (Ok r)
-asked s n t w k c r room is count even is_sound so =
-    let asks : Asks s n t k c (memory_of t) =
-    record { claim_is = is; names_are = count; memory_is = words_memory t even; memory_sound = is_sound } in
-    answer r so asks
-  where
-    answer : (r : Result Unit Why) → Judged n (memory_of t) c r → Asks s n t k c (memory_of t) → Answer s n t w (Ok r)
-    answer (Ok u) so asks = record { room = room; names = k; claim = c; memory = memory_of t; asks = asks; so = so }
-    answer (Err why) so asks = record { room = room; names = k; claim = c; memory = memory_of t; asks = asks; so = so }
+asked_judged s n t w k c (Ok u) room is count even is_sound so =
+    asked s n t w k c (λ m d. Says n m d) room is count even (is_true (sound (memory_of t)) is_sound) so
+asked_judged s n t w k c (Err why) room is count even is_sound so =
+    asked s n t w k c (λ m d. FailsFor n m d why) room is count even (is_true (sound (memory_of t)) is_sound) so
 
 -- a part that is as it was leaves the whole as it was
 pub put_back : (w : List ℕ) (a k : ℕ) (part : List ℕ) → part ≡ take k (drop a w) → put_mid a k w part ≡ w

@@ -1,6 +1,6 @@
 -- Dealing a memory's cells out to atoms, one after the other, and why a claim fails.
 --
--- deals_none, deals_more: the ways of a loop that deals.
+-- deals_none, deals_more, deals_stuck: the ways of a loop that deals.
 -- dealt_rest: if the first atoms are dealt out and all can be, then the others can be dealt what is left.
 -- false_fails, stuck_fails and left_fails: the claim does not hold, for each of the three reasons.
 use Rattle.std.proofs.Common.{◌≡◌, ℕ, ◌+◌, ◌<◌, T, List, [], ◌∷◌, ◌++◌, length, get_or, take, drop, sym, ap, ◌∙◌, subst, arith}
@@ -34,6 +34,17 @@ module _ (n : Names) (m : Memory) (xs : List Atom) (i : ℕ) (a : Atom) (e : Mem
       let (used, u, v) = parts_regroup before.parts t.parts in
       let front : take (i + 1) xs ≡ take i xs ++ a ∷ [] = take_more xs i a within ∙ ap (λ y. take i xs ++ y ∷ []) (this a) in
       record { used = used; parts = v; dealt = rw front (dealt_push a before.dealt u t.is) }
+
+  pub deals_stuck : (b : ℕ) → AtomStuck n a e b → AtomsStuck n m xs i b
+  deals_stuck b s =
+      record {
+        within = within;
+        used = before.used;
+        rest = e;
+        parts = before.parts;
+        dealt = before.dealt;
+        stuck = λ d. rw (this d) s;
+      }
 
 pub dealt_rest :
     {n : Names} {xs ys : List Atom} {m used rest : Memory} → T (sound m) → Parts used rest m → Dealt n xs used → Dealt n (xs ++ ys) m →

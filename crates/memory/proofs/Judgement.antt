@@ -15,13 +15,13 @@ use Rattle.memory.specs.declared.cells.SoundMemory.{SoundMemory}
 use Rattle.memory.specs.declared.dealings.Dealing.{Dealing}
 use Rattle.memory.specs.Taking.{Takes}
 use Rattle.std.specs.Result.{is_ok}
-use Rattle.memory.specs.Walks.{AtomTaken}
+use Rattle.memory.specs.Walks.{AtomStuck, AtomTaken}
 use Rattle.memory.specs.Judging.{FirstFalse, FalseFound, AtomsStuck, AtomsLeave, Deals, DealtOut, FailsFor, claim_from}
 use Rattle.memory.specs.declared.deals.Why.{Why}
 use Rattle.memory.specs.declared.deals.Why.TheVariants as why
 use Rattle.memory.proofs.Parts.{parts_comm, parts_none}
 use Rattle.memory.proofs.Marking.{length_memory, mark_out, none-unmarked}
-use Rattle.memory.proofs.Dealing.{deals_more, false_fails, stuck_fails, left_fails}
+use Rattle.memory.proofs.Dealing.{deals_more, deals_stuck, false_fails, stuck_fails, left_fails}
 
 -- what the checker reads past the end of an array
 abbrev pub no_pure : Pure
@@ -60,6 +60,16 @@ module _ (n : Names) (m : Memory) (xs : List Atom) (i : ℕ) (e : Memory) (befor
   atom_taken f within t =
       deals_more n m (map atom_of xs) i (atom_of (get_or xs i no_atom)) e (omega (arith, length-map xs atom_of)) (λ d. get_or-map atom_of xs i no_atom d within) before f t
 
+  pub atom_stuck :
+      (b : ℕ) → i < length xs → AtomStuck n (atom_of (get_or xs i no_atom)) e b → AtomsStuck n m (map atom_of xs) i b
+  atom_stuck b within s =
+      deals_stuck n m (map atom_of xs) i (atom_of (get_or xs i no_atom)) e (omega (arith, length-map xs atom_of)) (λ d. get_or-map atom_of xs i no_atom d within) before b s
+
+  pub atoms_taken : i ≡ length xs → Deals n m (map atom_of xs) (length (map atom_of xs)) e
+  atoms_taken h =
+      let same : i ≡ length (map atom_of xs) = h ∙ sym (length-map xs atom_of) in
+      subst (λ k. Deals n m (map atom_of xs) k e) same before
+
   pub atom_done :
       (r : Result Unit Place) (f : Memory) → is_ok r ≡ true → i < length xs → AtomTaken n (atom_of (get_or xs i no_atom)) e f r →
       Deals n m (map atom_of xs) (i + 1) f
@@ -79,7 +89,7 @@ module _ (n : Names) (s : List ℕ) (ps : List Pure) (xs : List Atom) (is_sound 
   fails_pure i f = record { fails = λ h. false_fails n (map pure_of ps) i f h.pures; why_true = f }
 
   module _ (true-pures : AllByRecursion (PureHolds n) (map pure_of ps)) where
-    fails_stuck :
+    pub fails_stuck :
         (i : ℕ) (b : Place) → AtomsStuck n (memory_of s) (map atom_of xs) i b.0 →
         FailsFor n (memory_of s) (claim_from ps xs) (why.Stuck i b)
     fails_stuck i b k =

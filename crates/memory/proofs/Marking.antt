@@ -1,11 +1,11 @@
 -- Memories as words, and cells that are marked.
 --
--- length_memory: how many cells words are; memory_words_of and words_memory: words and memories tell each other.
+-- length_memory, memory_at: how many cells words are, and which; memory_words_of and words_memory: words and memories tell each other.
 -- sound_rest: what is left of a sound memory is sound.
--- mark_out: marking a cell takes it out of the unmarked ones; unmarked_clear: where all marks are 0, all cells are left.
--- none-unmarked: with all cells marked nothing is left.
+-- mark_out: marking a cell takes it out of the unmarked ones; unmarked_clear: with no marks all cells are left; all_unmarked: so it is with marks that are all set to 0.
+-- absent_unmarked, none-unmarked: what is left has no cell at a place, or none at all.
 -- step_absent, step_taken and step_out: the ways of taking the cell at a place.
-use Rattle.std.proofs.Common.{◌≡◌, ℕ, zero, suc, ◌*◌, ◌/◌, ◌%◌, ◌<◌, false, true, T, eqb, List, [], ◌∷◌, length, get_or, set, replicate, sym, refl, ap, ◌∙◌, arith}
+use Rattle.std.proofs.Common.{◌≡◌, ℕ, zero, suc, ◌+◌, ◌*◌, ◌/◌, ◌%◌, ◌<◌, false, true, T, eqb, List, [], ◌∷◌, length, get_or, set, replicate, sym, refl, ap, ◌∙◌, arith}
 use Rattle.std.proofs.lemmas.Bool.{both_ways, or_from, or_right, ne_eqb}
 use Rattle.claims.specs.Memory.{Cell, Memory, here, sound, Parts, none_p, left_p, right_p}
 use Rattle.memory.specs.Marks.{memory_words, memory_of, unmarked, rest_of}
@@ -19,6 +19,17 @@ length_memory (p ∷ q ∷ s) = omega (arith, length_memory s)
 -- no cell, where a default is asked for
 pub nowhere : Cell ℕ
 nowhere = record { place = 0; holds = 0 }
+
+pub memory_at :
+    (s : List ℕ) (i : ℕ) (d : Cell ℕ) → i < length s / 2 →
+    get_or (memory_of s) i d ≡ record { place = get_or s (2 * i) 0; holds = get_or s (2 * i + 1) 0 }
+memory_at [] i d h = absurd (omega arith)
+memory_at (p ∷ []) i d h = absurd (omega arith)
+memory_at (p ∷ q ∷ s) zero d h = refl
+memory_at (p ∷ q ∷ s) (suc i) d h =
+    let first : 2 * suc i ≡ suc (suc (2 * i)) = omega arith in
+    let second : 2 * suc i + 1 ≡ suc (suc (2 * i + 1)) = omega arith in
+    rw (second, first) (memory_at s i d (omega arith))
 
 pub memory_words_of : (m : Memory) → memory_of (memory_words m) ≡ m
 memory_words_of [] = refl
@@ -54,10 +65,17 @@ unmarked_part (suc x ∷ w) (c ∷ m) = let (used, t) = unmarked_part w m in (c 
 pub sound_rest : (s w : List ℕ) → T (sound (memory_of s)) → T (sound (rest_of s w))
 sound_rest s w h = sound_right (unmarked_part w (memory_of s)).1 h
 
-pub unmarked_clear : {A : Type 0} (k : ℕ) (m : List A) → unmarked (replicate k 0) m ≡ m
-unmarked_clear zero m = refl
-unmarked_clear (suc k) [] = refl
-unmarked_clear (suc k) (c ∷ m) = ap (λ l. c ∷ l) (unmarked_clear k m)
+pub unmarked_clear : {A : Type 0} (w : List ℕ) (m : List A) → ((i : ℕ) → i < length w → get_or w i 0 ≡ 0) → unmarked w m ≡ m
+unmarked_clear [] m h = refl
+unmarked_clear (zero ∷ w) [] h = refl
+unmarked_clear (suc x ∷ w) [] h = refl
+unmarked_clear (zero ∷ w) (c ∷ m) h = ap (λ l. c ∷ l) (unmarked_clear w m (λ i l. h (suc i) (omega arith)))
+unmarked_clear (suc x ∷ w) (c ∷ m) h = absurd (omega (arith, h 0 (omega arith)))
+
+pub all_unmarked : {A : Type 0} (k : ℕ) (m : List A) → unmarked (replicate k 0) m ≡ m
+all_unmarked zero m = refl
+all_unmarked (suc k) [] = refl
+all_unmarked (suc k) (c ∷ m) = ap (λ l. c ∷ l) (all_unmarked k m)
 
 pub none-unmarked :
     {A : Type 0} (w : List ℕ) (m : List A) → length w ≡ length m → ((i : ℕ) → i < length w → get_or w i 0 ≡ 0 → ⊥) → unmarked w m ≡ []
@@ -67,6 +85,18 @@ none-unmarked (zero ∷ w) [] e h = refl
 none-unmarked (suc x ∷ w) [] e h = refl
 none-unmarked (zero ∷ w) (c ∷ m) e h = absurd (h 0 (omega arith) refl)
 none-unmarked (suc x ∷ w) (c ∷ m) e h = none-unmarked w m (omega arith) (λ i l. h (suc i) (omega arith))
+
+pub absent_unmarked :
+    (w : List ℕ) (m : Memory) (p : ℕ) (d : Cell ℕ) → length w ≡ length m →
+    ((i : ℕ) → i < length w → get_or w i 0 ≡ 0 → (get_or m i d).place ≡ p → ⊥) → here p (unmarked w m) ≡ false
+absent_unmarked [] [] p d e h = refl
+absent_unmarked [] (c ∷ m) p d e h = absurd (omega arith)
+absent_unmarked (zero ∷ w) [] p d e h = refl
+absent_unmarked (suc x ∷ w) [] p d e h = refl
+absent_unmarked (zero ∷ w) (c ∷ m) p d e h =
+    or_from (eqb c.place p) (here p (unmarked w m)) (ne_eqb c.place p (h 0 (omega arith) refl))
+    (absent_unmarked w m p d (omega arith) (λ i l. h (suc i) (omega arith)))
+absent_unmarked (suc x ∷ w) (c ∷ m) p d e h = absent_unmarked w m p d (omega arith) (λ i l. h (suc i) (omega arith))
 
 -- where a sound memory has a marked cell, nothing is left
 pub absent_marked :

@@ -1,5 +1,5 @@
 -- A memory's words two by two, a list for each cell: which cell is at a place, and is the memory sound?
-use Rattle.std.proofs.Common.{◌≡◌, ℕ, suc, ◌+◌, ◌-◌, ◌/◌, ◌<◌, ◌≤◌, Bool, true, false, not, ◌&&◌, ◌||◌, ◌==◌, cond, List, [], ◌∷◌, map, length, get_or, take, drop, Some, None, Option, sym, refl, ap, ◌∙◌, arith}
+use Rattle.std.proofs.Common.{◌≡◌, ℕ, suc, ◌+◌, ◌-◌, ◌*◌, ◌/◌, ◌<◌, ◌≤◌, Bool, true, false, not, ◌&&◌, ◌||◌, ◌==◌, cond, List, [], ◌∷◌, map, length, get_or, take, drop, Some, None, Option, sym, refl, ap, ◌∙◌, arith, length-drop}
 use Rattle.std.specs.Simd.{first_chunks}
 use Rattle.std.specs.List.{position, position_from}
 use Rattle.std.specs.Option.{is_some}
@@ -22,6 +22,16 @@ cells_whole (p ∷ []) = refl
 cells_whole (p ∷ q ∷ s) =
     let next : length (p ∷ q ∷ s) / 2 ≡ suc (length s / 2) = omega arith in
     rw next (ap (λ m. record { place = p; holds = q } ∷ m) (cells_whole s))
+
+short : (s : List ℕ) → length s < 2 → memory_of s ≡ []
+short [] h = refl
+short (p ∷ []) h = refl
+short (p ∷ q ∷ s) h = absurd (omega arith)
+
+-- past the last cell the others are sound
+pub sound_none :
+    (s : List ℕ) (i : ℕ) → sound (memory_of s) ≡ sound (memory_of (drop (2 * i) s)) → length s / 2 ≡ i → true ≡ sound (memory_of s)
+sound_none s i before h = sym (before ∙ ap sound (short (drop (2 * i) s) (omega (arith, length-drop (2 * i) s))))
 
 abbrev pub is_at : ℕ → List ℕ → Bool
 is_at p c = get_or c 0 0 == p

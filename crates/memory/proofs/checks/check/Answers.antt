@@ -6,7 +6,7 @@ use Rattle.memory.specs.Checking.{Room}
 use Rattle.memory.specs.Judging.{Judged}
 use Rattle.memory.specs.Marks.{memory_of}
 use Rattle.memory.specs.declared.checks.Refusal.TheVariants.{NoClaim, NoMemory, TooLarge, Few}
-use Rattle.memory.proofs.Asking.{NotAsked, other_names, odd_words, unsound, not_asked, asked, put_back, post}
+use Rattle.memory.proofs.Asking.{NotAsked, other_names, odd_words, unsound, not_asked, asked_judged, put_back, post}
 use Rattle.memory.proofs.checks.check.Goals as goal
 use Rattle.memory.proofs.checks.check.Goals.{then-names-from-via-then-names-from, then-names-from-via-else-names-from+then-memory-ne0}
 
@@ -77,5 +77,5 @@ returns c =
     let is_sound = subst (λ u. T (sound (memory_of u))) same m.sound in
     let judged = subst (λ u. Judged n (memory_of u) d c.judge.result) same c.judge.ensures.judged in
     post s n t w _ (Ok c.judge.result)
-    (asked s n t w k d c.judge.result room is (c.if-names-from.false ∙ c.from.ensures) c.if-memory-ne0.false is_sound judged)
+    (asked_judged s n t w k d c.judge.result room is (c.if-names-from.false ∙ c.from.ensures) c.if-memory-ne0.false is_sound judged)
     (put_back w mid (length w - mid) c.judge.new.marks c.judge.ensures.unchanged)

@@ -33,8 +33,11 @@ returns-in_default t c =
 pub search-requires-in-Some-side : goal.search-requires-in-Some-side
 search-requires-in-Some-side t c = (
   omega (arith, c.decreases, c.others.invariant.2, c.in-Left.ensures.no_more, c.in-Some-side.ensures.fewer c.in-Some.ensures.unknown),
-  part_later c.args.self.now c.others.known c.in-Some-side.same c.in-Left.left
-      (side_back c.others.known c.in-Some-side.same (same c.in-Some.x c.in-Some.y) (whole_of c.in-Left.left) c.in-Some-side.ensures.side) c.in-Left.ensures.part_of,
+  (
+    omega (arith, c.show.auto.marks, c.others.auto.marks, c.requires.room),
+    part_later c.args.self.now c.others.known c.in-Some-side.same c.in-Left.left
+        (side_back c.others.known c.in-Some-side.same (same c.in-Some.x c.in-Some.y) (whole_of c.in-Left.left) c.in-Some-side.ensures.side) c.in-Left.ensures.part_of,
+  ),
 )
 
 pub returns-in_default-side : goal.returns-in_default-side

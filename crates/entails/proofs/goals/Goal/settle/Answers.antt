@@ -45,8 +45,8 @@ returns-in_default-draw c =
     follows (goal.at.returns-in_default-draw c).After-whole-part
     (drawn (drawn_from c.in-Some.known (first_of c.args.self.now).atoms (whole_of c.whole-part.result) None c.whole-part.ensures.part_of c.in_default-draw.ensures.propagated) no_names)
 
-pub search-requires : goal.search-requires
-search-requires c =
+pub search-requires-clause-part_of : goal.search-requires-clause-part_of
+search-requires-clause-part_of c =
     part_later c.args.self.now c.in-Some.known c.in-Some-draw.drawn c.whole-part.result c.in-Some-draw.ensures.propagated.back c.whole-part.ensures.part_of
 
 pub returns : goal.returns

@@ -6,7 +6,7 @@ use Rattle.std.specs.declared.ops.Range.{Range}
 use Rattle.linked.specs.declared.known.Known.{Known}
 use Rattle.matching.specs.Rules.{Total}
 use Rattle.entails.specs.Searching.{IsOpen, Chosen}
-use Rattle.entails.proofs.goals.Goal.any_open.Goals as goal
+use Rattle.entails.proofs.choosing.any_open.Goals as goal
 
 chosen :
     (k : Known) (m : ℕ) (r : Option (ℕ × ℕ)) → ((p : ℕ × ℕ) → r ≡ Some p → IsOpen k p.0 p.1) → (r ≡ None → Total m k) → Chosen k m r
@@ -24,7 +24,7 @@ at_place P (Some y) a x h zero e = let same : y ≡ x = omega (arith, same_Some 
 
 pub returns : goal.returns
 returns c =
-    chosen c.args.known.now c.args.self.now.names c.find_map.result (λ p e. search (rules, ranges))
+    chosen c.args.known.now c.args.names c.find_map.result (λ p e. search (rules, ranges))
     (λ e x y hx hy.
     let run = c.find_map.ensures.runs.0 in
     let all = none_given _ c.find_map.result c.find_map.ensures.runs.2 e in

@@ -4,7 +4,7 @@ use Rattle.std.proofs.lemmas.Iterator.{first_from_Range}
 use Rattle.linked.specs.Knowing.{undecided}
 use Rattle.linked.specs.declared.known.Known.{Known}
 use Rattle.entails.specs.Searching.{OpenWith}
-use Rattle.entails.proofs.goals.Goal.open_with.Goals as goal
+use Rattle.entails.proofs.choosing.open_with.Goals as goal
 
 open_one :
     (k : Known) (x m : ℕ) (r : Option ℕ) →
@@ -18,6 +18,6 @@ pub returns : goal.returns
 returns c =
     let k = c.args.known.now in
     let x = c.args.x in
-    open_one k x c.args.self.now.names c.find.result
+    open_one k x c.args.names c.find.result
     (first_from_Range _ _ _ _ (λ y. undecided k x y ≡ true) (λ y. undecided k x y ≡ false) c.find.ensures.ran (λ y q h. search (rules, tests))
     (λ y q h. search (rules, tests)))

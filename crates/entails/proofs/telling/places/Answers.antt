@@ -1,6 +1,6 @@
 use Rattle.std.proofs.Common.{◌<◌, ◌≢◌, length, arith, length-set, get_or-set_other, get_or-set_same, below_more, ◌∙◌}
 use Rattle.entails.proofs.Writing.{all_stand}
-use Rattle.entails.proofs.goals.Goal.places.Goals as goal
+use Rattle.entails.proofs.telling.places.Goals as goal
 
 pub loop-x-preserved : goal.loop-x-preserved
 loop-x-preserved c =
@@ -13,5 +13,5 @@ loop-x-preserved c =
 
 pub returns : goal.returns
 returns c =
-    all_stand c.args.self.now.names c.args.known.now c.loop-x.places c.args.self.now.limits.few_names c.loop-x.invariant.0
+    all_stand c.args.names c.args.known.now c.loop-x.places c.requires.few c.loop-x.invariant.0
     (λ y h. c.loop-x.invariant.1 y (omega arith))
