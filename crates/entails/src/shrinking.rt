@@ -28,8 +28,10 @@ fn joined(known: &Known, x: u8, y: u8) -> Option<Known> {
 fn told_same(told: &Told, names: u8) -> Known {
     let mut known = Known::new();
     for (x, place) in (0..names).zip(&told.names) {
-        let place = u8::try_from(*place).ok();
-        if let Some(more) = place.and_then(|place| joined(&known, x, place)) {
+        let Ok(place) = u8::try_from(*place) else {
+            continue;
+        };
+        if let Some(more) = joined(&known, x, place) {
             known = more;
         }
     }
@@ -86,15 +88,21 @@ impl Goal {
             .filter(|trial| trial.count < told.count)
     }
 
-    // One round over the rows, so many at a time; answers how many trials are left.
-    fn round(&self, size: usize, mut trials: usize, told: &mut Told, marks: &mut [u32]) -> usize
+    // One round over the rows, so many at a time, with what is known of names in what is told; answers how many trials are left.
+    fn round(
+        &self,
+        mut known: Known,
+        size: usize,
+        mut trials: usize,
+        told: &mut Told,
+        marks: &mut [u32],
+    ) -> usize
         requires some { 0 < size }
         requires room { 128 ≤ length marks.old }
         requires against { ToldAgainst self.now told.old }
         ensures { ToldAgainst self.now told.new }
     {
         let atoms = self.first.atoms();
-        let mut known = told_same(told, self.names);
         for rows in atoms.chunks(size) {
             if trials == 0 {
                 break;
@@ -119,8 +127,14 @@ impl Goal {
         ensures { ToldAgainst self.now result }
     {
         let mut trials = TRIALS;
+        let mut known = told_same(&told, self.names);
         for size in [16, 4, 1] {
-            trials = self.round(size, trials, &mut told, marks);
+            let cells = told.count;
+            trials = self.round(known, size, trials, &mut told, marks);
+            // else the same is told as before, and the same is known of its names
+            if told.count < cells {
+                known = told_same(&told, self.names);
+            }
         }
         told
     }
