@@ -3,7 +3,6 @@
 ghost use Rattle.std.specs.Prelude.{◌≡◌, ◌+◌, ◌-◌, ◌%◌, ◌/◌, ◌^◌, ◌<◌, ◌≤◌, ◌==◌, ◌++◌, ◌↔◌, [], ◌∷◌, true, false, length, take, IfSome, OnOk, OnErr};
 ghost use Rattle.std.specs.List.{list_any};
 
-use arrayvec::ArrayVec;
 use std::marker::Model;
 
 // A told memory has at most this many cells.
@@ -23,22 +22,36 @@ pub enum Refused {
     NoRoom,
 }
 
+// What lies in a memory's array behind its cells. It is always this, so that the list of the cells gives the whole array, as the
+// model of a type that is `Copy` has to.
+const NOTHING: Cell = Cell { place: 0, leads: 0 };
+
 // Cells at different places, none nowhere.
-#[derive(Drop)]
+// An array with a count, since a vector of fixed capacity is not `Copy`, and a memory can be copied.
+#[derive(Clone, Copy)]
 pub struct Cells {
-    cells: ArrayVec<Cell, MOST_CELLS>,
+    cells: [Cell; MOST_CELLS],
+    count: usize,
 }
 
 // Its cells, in the order in which they were put.
 impl Model for Cells {
-    ghost use Rattle.std.specs.Prelude.{◌≤◌, List, length};
+    ghost use Rattle.std.specs.Prelude.{◌≡◌, ◌≤◌, List, length, take};
     ghost use Rattle.naive.specs.declared.cells.Cell.{Cell};
+    ghost use Rattle.naive.specs.Padded.{padded, IsPadded, padded_same, padded_count};
 
     ghost Value = { List Cell };
 
-    ghost view = { λ s. s.cells.items };
+    ghost view = { λ s. take s.count s.cells };
 
-    ghost invariant = { λ s. length s.cells.items ≤ 16 };
+    ghost invariant = { λ s. IsPadded s.count s.cells };
+
+    ghost inverse = { λ cells. record { cells = padded cells; count = length cells } };
+
+    ghost inverse_ok = { λ s h i. record {
+      cells = padded_same s.count s.cells h i;
+      count = padded_count s.count s.cells h i;
+    } };
 }
 
 impl Cells {
@@ -46,7 +59,8 @@ impl Cells {
         ensures { result ≡ [] }
     {
         Cells {
-            cells: ArrayVec::new(),
+            cells: [NOTHING; MOST_CELLS],
+            count: 0,
         }
     }
 
@@ -54,7 +68,15 @@ impl Cells {
         ensures count { result ≡ length self.now }
         ensures few { result ≤ 16 }
     {
-        self.cells.len()
+        self.as_slice().len()
+    }
+
+    // The cells, in order.
+    fn as_slice(&self) -> &[Cell]
+        ensures cells { result.now ≡ self.now }
+        ensures few { length result.now ≤ 16 }
+    {
+        &self.cells[..self.count]
     }
 
     // All of the cells, as a share.
@@ -68,7 +90,7 @@ impl Cells {
         ensures few { IfSome result (λ i. i < 16) }
         ensures of_the_share { IfSome result (λ i. (share / 2 ^ i) % 2 ≡ 1) }
     {
-        self.cells
+        self.as_slice()
             .iter()
             .position(|cell| cell.place == place)
             .filter(|i| (share >> *i) & 1 == 1)
@@ -77,7 +99,7 @@ impl Cells {
     fn is_taken(&self, place: u32) -> bool
         ensures { result ≡ list_any (λ cell. cell.place == place) self.now }
     {
-        self.cells.iter().any(|cell| cell.place == place)
+        self.as_slice().iter().any(|cell| cell.place == place)
     }
 
     // One cell more.
@@ -95,14 +117,20 @@ impl Cells {
         if self.is_taken(cell.place) {
             return Err(Refused::Taken);
         }
-        self.cells.try_push(cell).map_err(|_| Refused::NoRoom)
+        if self.count >= MOST_CELLS {
+            return Err(Refused::NoRoom);
+        }
+        self.cells[self.count] = cell;
+        self.count += 1;
+        Ok(())
     }
 
     // Without the cell that was put last.
     pub fn take_back(&mut self)
         ensures { self.new ≡ take (length self.old - 1) self.old }
     {
-        self.cells.pop();
+        self.count = self.count.saturating_sub(1);
+        self.cells[self.count] = NOTHING;
     }
 
     // Is the share just one cell, at the first place and leading to the second?
