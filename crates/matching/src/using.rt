@@ -29,6 +29,20 @@ impl Used {
     {
         self.marks[i] = true;
     }
+
+    // Are the first of them all used?
+    pub fn covers(&self, count: usize) -> bool
+        requires { count ≤ 64 }
+        ensures { result ≡ true → (i : ℕ) → i < count → IsFree self.now i → ⊥ }
+    {
+        // a loop, since a proof finds its way through it by an invariant, and not through `all` over numbers
+        for i in 0..count {
+            if !self.has(i) {
+                return false;
+            }
+        }
+        true
+    }
 }
 
 impl<'a> Rest<'a> {
