@@ -4,7 +4,7 @@ ghost use Rattle.claims.specs.Words.{Limits};
 
 use crate::asking::Answer;
 use crate::memories::memory_form;
-use findings::described;
+use findings::Description;
 use notation::Asked;
 use std::alloc::{AllocError, Global};
 
@@ -13,8 +13,8 @@ use std::alloc::{AllocError, Global};
 pub fn page(heap: Global, asked: &Asked, answer: &Answer) -> Result<String, AllocError>
     requires { Limits (question_of asked.now.question) }
 {
-    let described = described(heap, asked)?;
-    let mut out = format!(in heap; "{answer}\n{described}")?;
+    let description = Description { asked };
+    let mut out = format!(in heap; "{answer}\n{description}")?;
     if let Answer::Fails(instance) = answer {
         out.push_str("# here the first claim holds, and the second does not:\n")?;
         out.push_str(memory_form(heap, asked, instance)?.as_str())?;

@@ -3,6 +3,7 @@
 ghost use Rattle.std.specs.Prelude.{◌<◌, ◌≤◌};
 ghost use Rattle.claims.specs.Meaning.{question_of};
 ghost use Rattle.claims.specs.Words.{Limits};
+ghost use Rattle.findings.specs.Proposition.{limited};
 
 use claims::Name;
 use linked::known::Known;
@@ -86,14 +87,28 @@ impl fmt::Display for Findings<'_> {
 }
 
 // What was found out about a question's first claim, as comment lines of the notation.
+#[derive(Clone, Copy)]
+pub(crate) struct FoundOut<'a> {
+    pub(crate) asked: &'a Asked<'a>,
+    ghost limits: { Limits (question_of asked.now.question) } by { Prim.hlevel limited },
+}
+
+impl fmt::Display for FoundOut<'_> {
+    fn fmt<W: fmt::Write>(&self, f: &mut fmt::Formatter<W>) -> fmt::Result {
+        let asked = self.asked;
+        match settle_first(&asked.question) {
+            Outcome::Never => f.write_str("# the first claim can't be\n"),
+            Outcome::Forks(known) | Outcome::Holds(known) => {
+                let findings = Findings { asked, known };
+                write!(f, "{findings}")
+            }
+        }
+    }
+}
+
 pub fn found(heap: Global, asked: &Asked) -> Result<String, AllocError>
     requires { Limits (question_of asked.now.question) }
 {
-    match settle_first(&asked.question) {
-        Outcome::Never => String::from_str(heap, "# the first claim can't be\n"),
-        Outcome::Forks(known) | Outcome::Holds(known) => {
-            let findings = Findings { asked, known };
-            format!(in heap; "{findings}")
-        }
-    }
+    let found = FoundOut { asked };
+    format!(in heap; "{found}")
 }

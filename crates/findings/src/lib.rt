@@ -7,5 +7,5 @@ pub mod descriptions;
 pub mod findings;
 
 pub use counts::counted;
-pub use descriptions::described;
+pub use descriptions::{Description, described};
 pub use findings::found;

@@ -2,9 +2,12 @@
 // must be so of the names of its first claim.
 #![tactic(auto)]
 
+ghost use Rattle.claims.specs.Meaning.{question_of};
+ghost use Rattle.claims.specs.Words.{Limits};
+
 use console::{Program, Source, run};
-use findings::described;
-use notation::Reader;
+use findings::Description;
+use notation::{Asked, Reader};
 use std::alloc::{AllocError, Global};
 use std::io;
 use std::process::ExitCode;
@@ -42,11 +45,13 @@ A question, in words or on one line:
 
     // Prints the questions of the text.
     fn show_text(&mut self, rt: &HostRuntime, source: Source<'_>) -> io::Result<bool> {
-        let heap = rt.alloc();
-        let failures = source.show_each::<Reader, _>(rt, |asked| {
-            rt.println(described(heap, &asked)?)?;
+        let show = |asked: Asked<'_>|
+            requires { Limits (question_of asked.question) }
+        {
+            rt.println(Description { asked: &asked })?;
             Ok(true)
-        })?;
+        };
+        let failures = source.show_each::<Reader, _>(rt, show)?;
         Ok(failures == Some(0))
     }
 }
