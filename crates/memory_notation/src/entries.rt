@@ -4,12 +4,12 @@ ghost use Rattle.memory_notation.specs.Placing.{Placed};
 
 use crate::problems::Problem;
 use crate::stops::Stop;
-use indexmap::IndexMap;
 use memory::checks::MOST_CELLS;
 use notation::numbering::find;
 use notation::quotes::Quote;
 use notation::{Asked, Span};
 use std::alloc::{AllocError, Global};
+use std::collections::BTreeSet;
 
 #[derive(Clone, Copy)]
 pub struct Cell {
@@ -28,8 +28,10 @@ pub enum Entry {
 pub struct Entries {
     // the place that each name of the claim stands for, once it is given
     places: Vec<Option<u32>>,
-    // where the cell at a place leads, in the order of the entries
-    cells: IndexMap<u32, u32>,
+    // in the order of the entries
+    cells: Vec<Cell>,
+    // the places of the cells, by order and not by hashes, since a text could choose places that collide
+    taken: BTreeSet<u32>,
 }
 
 impl Entries {
@@ -39,7 +41,8 @@ impl Entries {
         places.resize(names.max(1), None)?;
         Ok(Entries {
             places,
-            cells: IndexMap::new(heap),
+            cells: Vec::new(heap),
+            taken: BTreeSet::new(heap),
         })
     }
 
@@ -64,13 +67,13 @@ impl Entries {
         if cell.at == 0 {
             return Err(Stop::at(from, Problem::CellNowhere));
         }
-        if self.cells.contains_key(&cell.at) {
-            return Err(Stop::at(from, Problem::CellTwice(cell.at)));
-        }
-        if self.cells.len() >= MOST_CELLS {
+        if self.cells.len() >= MOST_CELLS && !self.taken.contains(&cell.at) {
             return Err(Stop::at(from, Problem::ManyCells));
         }
-        self.cells.insert(cell.at, cell.to)?;
+        if !self.taken.insert(cell.at)? {
+            return Err(Stop::at(from, Problem::CellTwice(cell.at)));
+        }
+        self.cells.push(cell)?;
         Ok(())
     }
 
@@ -106,9 +109,9 @@ impl Entries {
     // Two words for each cell.
     pub fn memory_words(&self, heap: Global) -> Result<Vec<u32>, AllocError> {
         let mut words = Vec::new(heap);
-        for (at, to) in self.cells.iter() {
-            words.push(*at)?;
-            words.push(*to)?;
+        for cell in self.cells.iter() {
+            words.push(cell.at)?;
+            words.push(cell.to)?;
         }
         Ok(words)
     }
